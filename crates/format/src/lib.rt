@@ -1,0 +1,21 @@
+// What stands in bytes: a page, a kind of change, a slot of the log.
+mod addition;
+mod bytes;
+mod change;
+mod examples;
+mod page;
+mod patch;
+mod slot;
+
+pub use addition::Addition;
+pub use addition::AdditionChange;
+pub use change::Change;
+pub use page::Page;
+pub use patch::Patch;
+pub use patch::PatchChange;
+pub use slot::Action;
+pub use slot::CheckpointPart;
+pub use slot::JobEvent;
+pub use slot::Misfit;
+pub use slot::PageRecord;
+pub use slot::Slot;
