@@ -11,7 +11,7 @@ use crate::change::Change;
 use crate::patch::Patch;
 
 // A patch of 32 bytes fits at 220, and not at 221.
-pub fn last_patch_places() -> (bool, bool)
+pub(crate) fn last_patch_places() -> (bool, bool)
     ensures { λ r. ⌜ r ≡ (true, false) ⌝ }
 {
     let bytes = [255; 32];
@@ -22,7 +22,7 @@ pub fn last_patch_places() -> (bool, bool)
 }
 
 // 4,294,967,295 added to 3 gives 2, and taken back 3 again.
-pub fn sum_past_the_end() -> Option<(u8, u8)>
+pub(crate) fn sum_past_the_end() -> Option<(u8, u8)>
     ensures { λ r. ⌜ r ≡ Some (2, 3) ⌝ }
 {
     let addition = Addition::new(0, 4_294_967_295)?;
@@ -35,7 +35,7 @@ pub fn sum_past_the_end() -> Option<(u8, u8)>
 }
 
 // An addition at 248 adds to the last four bytes, and changes no other.
-pub fn add_at_the_end(content: &mut [u8; 252], amount: u32)
+pub(crate) fn add_at_the_end(content: &mut [u8; 252], amount: u32)
     ensures others { λ _. ⌜ take 248 (now (content .exit)) ≡ take 248 (now (content .entry)) ⌝ }
     ensures sum { λ _. ⌜ number-at (now (content .exit)) 248 ≡ (number-at (now (content .entry)) 248 + amount) % 2 ^ 32 ⌝ }
 {

@@ -6,6 +6,7 @@ mod examples;
 mod page;
 mod patch;
 mod slot;
+mod words;
 
 pub use addition::Addition;
 pub use addition::AdditionChange;
@@ -19,3 +20,10 @@ pub use slot::JobEvent;
 pub use slot::Misfit;
 pub use slot::PageRecord;
 pub use slot::Slot;
+pub use words::AdditionDisplay;
+pub use words::CheckpointPartDisplay;
+pub use words::JobEventDisplay;
+pub use words::MisfitDisplay;
+pub use words::PageRecordDisplay;
+pub use words::PatchDisplay;
+pub use words::SlotDisplay;

@@ -9,7 +9,7 @@ use crate::bytes::number_at;
 
 // Every field that some kind uses; a field that the slot's kind does not use is zero.
 #[derive(Clone, Copy)]
-pub struct Fields {
+pub(crate) struct Fields {
     pub kind: u8,
     pub page: u8,
     pub job: u32,
@@ -20,7 +20,7 @@ pub struct Fields {
 
 // Which fields a kind uses.
 #[derive(Clone, Copy)]
-pub struct Uses {
+pub(crate) struct Uses {
     pub page: bool,
     pub job: bool,
     pub lrc: bool,
@@ -28,7 +28,7 @@ pub struct Uses {
     pub change: bool,
 }
 
-const NONE: Uses = Uses {
+const NOTHING: Uses = Uses {
     page: false,
     job: false,
     lrc: false,
@@ -36,40 +36,41 @@ const NONE: Uses = Uses {
     change: false,
 };
 
+const JOB: Uses = Uses {
+    job: true,
+    ..NOTHING
+};
+
+const RECORD: Uses = Uses {
+    page: true,
+    job: true,
+    lrc: true,
+    link: true,
+    change: true,
+};
+
+// What each kind uses, from 1 on: open, change, compensation, commit, end, then a checkpoint's begin, page, job and end.
 const KINDS: [Uses; 9] = [
-    Uses { job: true, ..NONE },
-    Uses {
-        page: true,
-        job: true,
-        lrc: true,
-        link: true,
-        change: true,
-    },
-    Uses {
-        page: true,
-        job: true,
-        lrc: true,
-        link: true,
-        change: true,
-    },
-    Uses { job: true, ..NONE },
-    Uses { job: true, ..NONE },
-    NONE,
+    JOB,
+    RECORD,
+    RECORD,
+    JOB,
+    JOB,
+    NOTHING,
     Uses {
         page: true,
         link: true,
-        ..NONE
+        ..NOTHING
     },
+    Uses { link: true, ..JOB },
     Uses {
-        job: true,
         link: true,
-        ..NONE
+        ..NOTHING
     },
-    Uses { link: true, ..NONE },
 ];
 
 // The table's row of a kind, from 1 to 9.
-pub fn uses_of(kind: u8) -> Option<Uses>
+pub(crate) fn uses_of(kind: u8) -> Option<Uses>
     ensures { λ r. ⌜ r ≡ uses-of kind ⌝ }
 {
     if kind == 0 || kind > 9 {
@@ -80,7 +81,7 @@ pub fn uses_of(kind: u8) -> Option<Uses>
 
 impl Fields {
     // No field is used.
-    pub const ZERO: Fields = Fields {
+    pub(crate) const ZERO: Fields = Fields {
         kind: 0,
         page: 0,
         job: 0,
@@ -90,7 +91,7 @@ impl Fields {
     };
 
     // The fields of 60 bytes, or nothing where a byte that no kind uses is not zero.
-    pub fn read(bytes: &[u8; 60]) -> Option<Fields>
+    pub(crate) fn read(bytes: &[u8; 60]) -> Option<Fields>
         ensures { λ r. ⌜ r ≡ cond (padding-zero (now (bytes .entry))) (Some (fields-of (now (bytes .entry)))) None ⌝ }
     {
         let [kind, page, 0, 0, rest @ ..] = &bytes[..] else {
@@ -112,7 +113,7 @@ impl Fields {
     }
 
     // The 60 bytes that have these fields.
-    pub fn write(&self) -> [u8; 60]
+    pub(crate) fn write(&self) -> [u8; 60]
         ensures value { λ r. ⌜ r ≡ laid-out (now (self .entry)) ⌝ }
         ensures sized { λ _. ⌜ Sized (now (self .entry)) ⌝ }
     {
@@ -159,7 +160,7 @@ impl Fields {
     }
 
     // The first thing by which the fields do not fit slot `number` of a log over `pages` pages.
-    pub fn misfit(&self, uses: Uses, number: u32, pages: u32) -> Option<Misfit>
+    pub(crate) fn misfit(&self, uses: Uses, number: u32, pages: u32) -> Option<Misfit>
         ensures { λ r. ⌜ r ≡ misfit-of pages number uses (now (self .entry)) ⌝ }
     {
         if !self.unused_zero(uses) {
@@ -181,7 +182,7 @@ impl Fields {
     }
 
     // The fields with zero in each that the kind does not use.
-    pub fn only_used(self) -> Fields
+    pub(crate) fn only_used(self) -> Fields
         ensures { λ r. ⌜ r ≡ only-used self ⌝ }
     {
         let Some(uses) = uses_of(self.kind) else {

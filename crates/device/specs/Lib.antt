@@ -1,0 +1,3 @@
+pub mod LogStores
+pub mod Memory
+pub mod PageStores
