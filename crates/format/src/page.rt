@@ -1,4 +1,4 @@
-// A page: its LRC, the number of the newest record that it holds, and 252 bytes of content.
+// A page: its LRC, which counts the records that it holds, and 252 bytes of content.
 ghost use mathlib.Core.Path.{_≡_};
 ghost use mathlib.Core.List.{List, _++_};
 ghost use Prim.Native.Nat.{ℕ};
