@@ -1,0 +1,13 @@
+mod BatteryCuts
+mod BatteryForces
+mod BatteryRows
+mod BatteryWrites
+mod PagedLogCalls
+mod PagedLogEnds
+mod PagedLogModel
+mod PagedLogParts
+mod PagedLogSteps
+mod PagedLogWrites
+mod ScriptedOutcomes
+mod ScriptedRows
+mod SpanSteps
