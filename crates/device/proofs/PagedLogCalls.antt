@@ -25,7 +25,7 @@ use Rattle.device.specs.PagedLogs.{count-of, slot-at, first-slots, log-length,
 use Rattle.device.specs.PagedLogsSound.{length-first}
 use Rattle.device.proofs.PagedLogEnds.{first-same, take-first, count-there}
 use Rattle.device.proofs.PagedLogSteps.{kept-by-room, room-size, slots-by-room, end-by-room, next-blank, put-size, put-there, put-kept, put-count, put-end}
-use Rattle.device.proofs.PagedLogWrites.{as-whole}
+use Rattle.device.proofs.BatteryRows.{as-bytes-is}
 use Rattle.device.proofs.PagedLogModel.{at-this, slots-size, with-power, kept-sure}
 
 pub lost-already : (m : PageModel) (len : ℕ) (last slot : List ℕ) → m .powered ≡ false
@@ -55,7 +55,7 @@ module _ (pages : List (List ℕ)) (n : ℕ) (inside : n < 4 * length pages) (wh
   new = put-slot (room-made pages n) n slot
 
   as-is : as-bytes 60 slot ≡ slot
-  as-is = as-whole 60 slot (fits .size) (fits .small)
+  as-is = as-bytes-is 60 slot (fits .size) (fits .small)
 
   roomy-inside : n < 4 * length (room-made pages n)
   roomy-inside = let s = room-size pages n in omega arith

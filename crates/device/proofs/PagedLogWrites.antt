@@ -20,15 +20,7 @@ use Rattle.device.specs.Memory.{as-bytes}
 use Rattle.device.specs.PageStores.{PageModel, PageWritten}
 use Rattle.device.specs.PagedLogs.{count-of, slot-in, slot-at, stands, blank, page-with, room-made, put-slot, at-power, Made, SlotPut}
 use Rattle.device.proofs.PagedLogSteps.{room-size}
-
-pub as-whole : (n : ℕ) (xs : List ℕ) → length xs ≡ n → ((k : ℕ) → getD xs k 0 < 256) → as-bytes n xs ≡ xs
-as-whole zero [] e h = refl
-as-whole zero (x ∷ xs) e h = absurd (omega arith)
-as-whole (suc n) [] e h = absurd (omega arith)
-as-whole (suc n) (x ∷ xs) e h =
-    let first = h 0 in
-    let small : x % 256 ≡ x = omega arith in
-    ap (λ (y : ℕ). y ∷ as-bytes n xs) small ∙ ap (λ (l : List ℕ). x ∷ l) (as-whole n xs (omega arith) (λ k. h (suc k)))
+use Rattle.device.proofs.BatteryRows.{as-bytes-is}
 
 -- whether a slot stands, as the code asks
 pub stands-not : (pages : List (List ℕ)) (n : ℕ) (slot bytes : List ℕ) → bytes ≡ getD pages (n / 4) [] → count-of bytes ≤ n % 4 → false ≡ stands pages n slot

@@ -2,4 +2,10 @@
 #[cfg(test)]
 mod battery;
 #[cfg(test)]
+mod counting;
+#[cfg(test)]
+mod paged_log;
+#[cfg(test)]
 mod scripted;
+#[cfg(test)]
+mod span;

@@ -1,4 +1,4 @@
-// What the program is asked: the number of pages, the kind of change, and where the image is.
+// What the program is asked: the number of pages, the kind of change, how the log lies in the image, and where the image is.
 use crate::failure::Failure;
 use crate::failure::FailureFromIo;
 use std::env;
@@ -7,6 +7,7 @@ use std::env;
 pub struct Arguments {
     pub pages: u32,
     pub kind: ChangeKind,
+    pub layout: Layout,
     // None: standard input.
     pub file: Option<String>,
 }
@@ -15,6 +16,14 @@ pub struct Arguments {
 pub enum ChangeKind {
     Patch,
     Addition,
+}
+
+#[derive(Clone, Copy)]
+pub enum Layout {
+    // One slot after the other.
+    Slots,
+    // Log pages, four slots to a page.
+    Pages,
 }
 
 impl Arguments {
@@ -27,6 +36,9 @@ impl Arguments {
         let Some(kind) = words.next() else {
             return Err(Failure::Usage);
         };
+        let Some(layout) = words.next() else {
+            return Err(Failure::Usage);
+        };
         let file = words.next();
         if words.next().is_some() {
             return Err(Failure::Usage);
@@ -34,6 +46,7 @@ impl Arguments {
         Ok(Arguments {
             pages: page_count(pages.as_str())?,
             kind: change_kind(kind.as_str())?,
+            layout: image_layout(layout.as_str())?,
             file,
         })
     }
@@ -59,5 +72,15 @@ fn change_kind(text: &str) -> Result<ChangeKind, Failure> {
         Ok(ChangeKind::Addition)
     } else {
         Err(Failure::Kind)
+    }
+}
+
+fn image_layout(text: &str) -> Result<Layout, Failure> {
+    if text == "slots" {
+        Ok(Layout::Slots)
+    } else if text == "pages" {
+        Ok(Layout::Pages)
+    } else {
+        Err(Failure::Layout)
     }
 }

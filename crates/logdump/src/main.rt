@@ -1,4 +1,4 @@
-// logdump PAGES KIND [FILE]: prints the log image in FILE, or on standard input, in words.
+// logdump PAGES KIND LAYOUT [FILE]: prints the log image in FILE, or on standard input, in words.
 // Each slot has its line, then comes a summary; what does not fit is said and passed over.
 mod arguments;
 mod dump;
@@ -46,7 +46,7 @@ fn of_kind<R: Read + Drop>(
     arguments: &Arguments,
 ) -> Result<(), Failure> {
     match arguments.kind {
-        ChangeKind::Patch => dump::<Patch, R>(rt, reader, arguments.pages),
-        ChangeKind::Addition => dump::<Addition, R>(rt, reader, arguments.pages),
+        ChangeKind::Patch => dump::<Patch, R>(rt, reader, arguments.pages, arguments.layout),
+        ChangeKind::Addition => dump::<Addition, R>(rt, reader, arguments.pages, arguments.layout),
     }
 }

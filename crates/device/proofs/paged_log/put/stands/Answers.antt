@@ -1,6 +1,7 @@
 use native.Mathlib.Omega.{arith}
 use Rattle.std.proofs.shelf.Equals.{matches-decides}
-use Rattle.device.proofs.PagedLogWrites.{as-whole, stands-not, stands-there}
+use Rattle.device.proofs.PagedLogWrites.{stands-not, stands-there}
+use Rattle.device.proofs.BatteryRows.{as-bytes-is}
 use Rattle.device.proofs.PagedLogModel.{read-page}
 use Rattle.device.proofs.paged_log.put.stands.Needs as need
 
@@ -10,7 +11,7 @@ returns-then-place-count g c =
     record {
       value = stands-not (m .pages) (c .args .n) (c .args .slot .now) (c .in-Ok .bytes)
           (read-page m _ (c .read .result) (c .in-Ok .bytes) (c .read .ensures) (c .in-Ok .is)) (omega arith);
-      whole = as-whole 60 (c .args .slot .now) (c .told-slot) (c .fits-slot);
+      whole = as-bytes-is 60 (c .args .slot .now) (c .told-slot) (c .fits-slot);
     }
 
 pub returns : need.returns
@@ -20,5 +21,5 @@ returns g c =
       value = stands-there (m .pages) (c .args .n) (c .args .slot .now) (c .in-Ok .bytes) (c .slot .result) (c .eq .result)
           (read-page m _ (c .read .result) (c .in-Ok .bytes) (c .read .ensures) (c .in-Ok .is)) (omega arith) (c .slot .ensures)
           (matches-decides (c .slot .result) (c .args .slot .now) (c .eq .result) (c .eq .ensures));
-      whole = as-whole 60 (c .args .slot .now) (c .told-slot) (c .fits-slot);
+      whole = as-bytes-is 60 (c .args .slot .now) (c .told-slot) (c .fits-slot);
     }
