@@ -6,8 +6,8 @@ use native.Mathlib.Omega.{arith}
 use lib.Dec.{lit<}
 use lib.ListN.{length, getD}
 
--- The n bytes in a row of memory. A row of n bytes is itself; the type of the memory says that every row is one,
--- and so that the logic need not be told of each row, any other list is cut and filled to n bytes.
+-- The n bytes in a row of memory. A row of n bytes is itself, and every row of memory is one by its type. Any other list is cut and
+-- filled to n bytes, so that what holds of rows of bytes holds of every value of a store.
 abbrev pub as-bytes : ℕ → List ℕ → List ℕ
 as-bytes zero xs = []
 as-bytes (suc n) [] = 0 ∷ as-bytes n []

@@ -11,7 +11,7 @@ pub struct Counting<P> {
 }
 
 impl<P> Counting<P> {
-    pub fn new(pages: P) -> Counting<P> {
+    pub(crate) fn new(pages: P) -> Counting<P> {
         Counting {
             pages,
             reads: Cell::new(0),
@@ -19,11 +19,11 @@ impl<P> Counting<P> {
         }
     }
 
-    pub fn reads(&self) -> u32 {
+    pub(crate) fn reads(&self) -> u32 {
         self.reads.get()
     }
 
-    pub fn writes(&self) -> u32 {
+    pub(crate) fn writes(&self) -> u32 {
         self.writes
     }
 }

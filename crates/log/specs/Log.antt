@@ -176,7 +176,8 @@ checkpoint-by (DirtyPage p s) n m was = was
 checkpoint-by (OpenJob j x) n m was = was
 checkpoint-by (Complete b) n m was = completed m b n was
 
--- the newest complete checkpoint: its end names the begin of what was in the making
+-- the newest complete checkpoint: its end names the begin of what was in the making.
+-- (Where a restart begins is a rule of its own: it goes by the last end, and does not pass over one that completes nothing.)
 abbrev pub last-checkpoint : {C : Type 0} → Log C → Option Bounds
 last-checkpoint [] = None
 last-checkpoint (None ∷ L) = last-checkpoint L

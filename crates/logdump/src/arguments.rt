@@ -27,7 +27,7 @@ pub enum Layout {
 }
 
 impl Arguments {
-    pub fn parse(rt: &LibcRuntime) -> Result<Arguments, Failure> {
+    pub(crate) fn parse(rt: &LibcRuntime) -> Result<Arguments, Failure> {
         let mut words = env::args(rt)?;
         let _program = words.next();
         let Some(pages) = words.next() else {

@@ -26,7 +26,7 @@ use std::io::BufWriter;
 use std::io::Read;
 use std::io::Write;
 
-pub fn dump<C: Change + fmt::Display + Copy, R: Read + Drop>(
+pub(crate) fn dump<C: Change + fmt::Display + Copy, R: Read + Drop>(
     rt: &LibcRuntime,
     reader: R,
     pages: u32,

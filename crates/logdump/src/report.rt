@@ -4,7 +4,7 @@ use log::Summary;
 use std::io;
 use std::io::Write;
 
-pub fn print_summary<W: Write>(out: &mut W, summary: &Summary) -> io::Result<()> {
+pub(crate) fn print_summary<W: Write>(out: &mut W, summary: &Summary) -> io::Result<()> {
     print_counts(out, summary)?;
     print_jobs(out, summary)?;
     print_pages(out, summary)?;

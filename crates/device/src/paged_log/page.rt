@@ -6,13 +6,13 @@ ghost use lib.ListN.{drop, replicate};
 ghost use Rattle.format.specs.Bytes.{spelled};
 ghost use Rattle.device.specs.PagedLogs.{count-of, slot-in, page-with};
 
-pub fn count(page: &[u8; 256]) -> u32
+pub(crate) fn count(page: &[u8; 256]) -> u32
     ensures { λ r. ⌜ r ≡ count-of (now (page .entry)) ⌝ }
 {
     u32::from_le_bytes([page[0], page[1], page[2], page[3]]).min(4)
 }
 
-pub fn slot(page: &[u8; 256], place: usize) -> [u8; 60]
+pub(crate) fn slot(page: &[u8; 256], place: usize) -> [u8; 60]
     requires { ⌜ place < 4 ⌝ }
     ensures { λ r. ⌜ r ≡ slot-in (now (page .entry)) place ⌝ }
 {
@@ -23,7 +23,7 @@ pub fn slot(page: &[u8; 256], place: usize) -> [u8; 60]
 }
 
 // The page with this slot and the count that makes it the last.
-pub fn with_slot(page: &[u8; 256], place: usize, slot: &[u8; 60]) -> [u8; 256]
+pub(crate) fn with_slot(page: &[u8; 256], place: usize, slot: &[u8; 60]) -> [u8; 256]
     requires { ⌜ place < 4 ⌝ }
     ensures { λ r. ⌜ r ≡ page-with (now (page .entry)) place (now (slot .entry)) ⌝ }
 {

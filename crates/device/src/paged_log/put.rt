@@ -9,7 +9,7 @@ use crate::page_store::PageStore;
 use crate::paged_log::page;
 
 // How many slots the pages say.
-pub fn end<P: PageStore>(pages: &P) -> u32
+pub(crate) fn end<P: PageStore>(pages: &P) -> u32
     requires { ⌜ P·PageStore .model (now pages) .powered ≡ true ⌝ }
     ensures { λ r. ⌜ r ≡ log-length (P·PageStore .model (now (pages .entry)) .pages) ⌝ }
 {
@@ -27,7 +27,7 @@ pub fn end<P: PageStore>(pages: &P) -> u32
 }
 
 // Whether slot n, counted from 0, is part of its page and has these bytes.
-pub fn stands<P: PageStore>(pages: &P, n: u32, slot: &[u8; 60]) -> bool
+pub(crate) fn stands<P: PageStore>(pages: &P, n: u32, slot: &[u8; 60]) -> bool
     requires { ⌜ P·PageStore .model (now pages) .powered ≡ true ⌝ ∗ ⌜ n < room (P·PageStore .model (now pages)) ⌝ }
     ensures value { λ r. ⌜ r ≡ stands (P·PageStore .model (now (pages .entry)) .pages) n (now (slot .entry)) ⌝ }
     ensures whole { λ _. ⌜ as-bytes 60 (now (slot .entry)) ≡ now (slot .entry) ⌝ }
@@ -62,7 +62,7 @@ fn make_room<P: PageStore>(pages: &mut P, n: u32) -> Result<(), PageFault>
 }
 
 // Puts slot n: one write of its page, with the slot and the new count together.
-pub fn put<P: PageStore>(pages: &mut P, n: u32, slot: &[u8; 60]) -> Result<(), PageFault>
+pub(crate) fn put<P: PageStore>(pages: &mut P, n: u32, slot: &[u8; 60]) -> Result<(), PageFault>
     requires { ⌜ P·PageStore .model (now pages) .powered ≡ true ⌝ ∗ ⌜ n < room (P·PageStore .model (now pages)) ⌝ }
     ensures { λ r. ⌜ SlotPut (P·PageStore .model (now (pages .entry)) .pages) n (now (slot .entry)) r (P·PageStore .model (now (pages .exit))) ⌝ }
 {
