@@ -1,4 +1,6 @@
 // Battery memory: a store in memory that its owner lends, whose power is lost at most once, where its maker sets it.
+#![tactic(auto)]
+
 ghost use Rattle.std.specs.Prelude.{◌≡◌, ◌<◌, length, slice_index_or};
 ghost use Rattle.battery.specs.Batteries.{held, made, room, in_use, now_forced, standing, counted, written, forced_on, appended, on_again, cut_back};
 

@@ -1,4 +1,6 @@
 // The two kinds of change: patches and additions.
+#![tactic(auto)]
+
 mod addition;
 mod examples;
 mod patch;

@@ -1,4 +1,6 @@
 // The two devices: what a page store and a log store mean.
+#![tactic(auto)]
+
 mod log_store;
 mod page_store;
 

@@ -1,4 +1,6 @@
 // Tests of the devices, in a crate of their own, since a crate with tests is proved twice.
+#![tactic(auto)]
+
 #[cfg(test)]
 mod battery;
 #[cfg(test)]

@@ -1,4 +1,6 @@
 // What stands in bytes: a page, a kind of change, a slot of the log.
+#![tactic(auto)]
+
 mod bytes;
 mod change;
 mod page;

@@ -1,5 +1,7 @@
 // logdump PAGES KIND LAYOUT [FILE]: prints the log image in FILE, or on standard input, in words.
 // Each slot has its line, then comes a summary; what does not fit is said and passed over.
+#![tactic(auto)]
+
 mod arguments;
 mod dump;
 mod failure;

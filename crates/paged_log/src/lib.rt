@@ -7,6 +7,8 @@
 // Making reads each page once, to find the end; from then on the length is remembered, and a call reads two pages at most. When power is
 // lost in an append, nobody can tell before power is back whether the slot stands. The log then has it as a slot that is not forced, or as
 // one that is where its page has it, and `power_on` looks.
+#![tactic(auto)]
+
 ghost use Rattle.std.specs.Prelude.{◌≡◌, min};
 ghost use Rattle.device.specs.PageStores.{powered_on};
 ghost use Rattle.paged_log.specs.PagedLogs.{model_of, found, room, Agrees};

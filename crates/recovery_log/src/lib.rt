@@ -1,4 +1,6 @@
 // What a log says, told in one pass over its slots.
+#![tactic(auto)]
+
 mod error;
 mod jobs;
 mod making;

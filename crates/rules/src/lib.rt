@@ -1,4 +1,6 @@
 // The rules of the server as definitions, and theorems about them.
+#![tactic(auto)]
+
 mod promises;
 mod refusal;
 mod table;

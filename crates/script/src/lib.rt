@@ -1,4 +1,6 @@
 // The script of scripted memory, for tests and tools: at which operation of its two devices power is lost, and what that leaves.
+#![tactic(auto)]
+
 mod plan;
 mod script;
 

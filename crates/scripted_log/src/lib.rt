@@ -1,4 +1,6 @@
 // A log store in owned memory whose power fails where its script says.
+#![tactic(auto)]
+
 ghost use Rattle.std.specs.Prelude.{◌≡◌, ℕ, ◌-◌, ◌^◌, ◌<◌, ◌≤◌, [], length, vec_len, vec_capacity, slice_index, slice_index_or};
 
 use script::Script;

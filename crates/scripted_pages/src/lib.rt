@@ -1,4 +1,6 @@
 // A page store in owned memory whose power fails where its script says.
+#![tactic(auto)]
+
 ghost use Rattle.std.specs.Prelude.{◌≡◌, ℕ, ◌<◌, ◌≤◌, [], length, vec_len, slice_index, slice_index_or};
 
 use script::Script;

@@ -1,4 +1,6 @@
 // A span: two page stores, one after the other, as one page store.
+#![tactic(auto)]
+
 ghost use Rattle.std.specs.Prelude.{◌≡◌, length};
 ghost use Rattle.device.specs.PageStores.{PageRead, PageWritten, powered_on};
 ghost use Rattle.span.specs.Spans.{joined, joined_sound, at_page};

@@ -1,4 +1,6 @@
 // The server's tables: open jobs, and dirty pages.
+#![tactic(auto)]
+
 mod dirty;
 mod jobs;
 

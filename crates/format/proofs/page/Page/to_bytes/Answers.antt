@@ -5,5 +5,5 @@ use Rattle.format.proofs.page.Page.to_bytes.Goals as goal
 
 pub returns : goal.returns
 returns c = page_pair c.args.self.now (omega arith)
-    (rw (c.copy-from-slice.ensures.after, c.to-le-bytes.ensures, c.copy-from-slice-2.ensures.after)
+    (rw (c.copy_from_slice.ensures.after, c.to_le_bytes.ensures, c.copy_from_slice-2.ensures.after)
     (ap (λ (xs : List ℕ). spelled c.args.self.now.lrc ++ xs) (append-nil c.args.self.now.content)))

@@ -9,7 +9,7 @@ pub returns : goal.returns
 returns g c =
     let m = g.C.Change.meaning in
     let law = g.met.C.Change.lawful in
-    let fields = c.only-used.ensures ∙ ap only_used c.fields.ensures in
+    let fields = c.only_used.ensures ∙ ap only_used c.fields.ensures in
     let value = c.write.ensures.value ∙ ap laid_out fields in
     let sized = subst Sized (fields ∙ all_used m law c.args.self.now) c.write.ensures.sized in
     record {

@@ -12,4 +12,4 @@ pub returns : goal.returns
 returns c =
     let b = c.args.bytes.now in
     let p : padding_zero c.args.bytes.now ≡ true = search (rules, padding_good) in
-    rw (p, c.number-at-2.ensures, number_rest b 4 0, c.number-at-3.ensures, number_rest b 4 4, c.number-at-4.ensures, number_rest b 4 8, c.copy-from-slice.ensures.after, change_behind b)
+    rw (p, c.number_at-2.ensures, number_rest b 4 0, c.number_at-3.ensures, number_rest b 4 4, c.number_at-4.ensures, number_rest b 4 8, c.copy-from-slice.ensures.after, change_behind b)

@@ -4,9 +4,9 @@ use Rattle.format.proofs.slot.fields.Fields.write.Goals as goal
 pub returns : goal.returns
 returns c = record {
   value = rw (
-    c.copy-from-slice.ensures.after,
-    c.to-le-bytes.ensures,
-    c.copy-from-slice-2.ensures.after,
+    c.copy_from_slice.ensures.after,
+    c.to_le_bytes.ensures,
+    c.copy_from_slice-2.ensures.after,
     c.to-le-bytes-2.ensures,
     c.copy-from-slice-3.ensures.after,
     c.to-le-bytes-3.ensures,
