@@ -2,7 +2,6 @@
 use Rattle.std.proofs.Common.{◌≡◌, ℕ, suc, ◌-◌, ◌<◌, ◌≤◌, Bool, true, false, cond, ◌||◌, eqb, List, [], ◌∷◌, length, is_some, Some, None, unwrap_or, sym, refl, ap, ◌∙◌, subst, arith}
 use Rattle.std.specs.BTreeMap.{BTreeMap}
 use Rattle.std.specs.BTreeMap.{get}
-use Rattle.std.proofs.lemmas.Map.Contents.{BTreeMapAfterUpdate}
 use Rattle.std.proofs.lemmas.Bool.{eq-eqb, eqb-true}
 use Rattle.format.specs.declared.slot.Slot.TheVariants.{Record, Job, Checkpoint}
 use Rattle.format.specs.declared.slot.PageRecord.{PageRecord}
@@ -11,7 +10,7 @@ use Rattle.format.specs.declared.slot.Action.TheVariants.{Put, TakeBack}
 use Rattle.recovery_log.specs.declared.jobs.JobSummary.{JobSummary}
 use Rattle.recovery_log.specs.Log.{Log, Numbered, rest, pending, pending_by, new_number}
 use Rattle.recovery_log.specs.Summary.{TellsJobs, nothing, job_in, job_at, is_named, with_action, counted_by}
-use Rattle.recovery_log.proofs.Puts.{elsewhere}
+use Rattle.recovery_log.proofs.Puts.{AfterSet, here, elsewhere}
 use Rattle.std.specs.Ordering.{nat_cmp}
 
 module _ {C : Type 0} where
@@ -50,20 +49,20 @@ module _ {C : Type 0} where
 
 -- of the record's job all is told by the record and what was told; of each other job what was told
 pub told_record : {C : Type 0} {m n : BTreeMap ℕ JobSummary} {L : Log C} → TellsJobs m L → (r : PageRecord C) → length L < 4294967295
-    → BTreeMapAfterUpdate nat_cmp m n r.job (Some (with_action r.action (job_at m r.job))) → TellsJobs n (Some (Record r) ∷ L)
+    → AfterSet m n r.job (Some (with_action r.action (job_at m r.job))) → TellsJobs n (Some (Record r) ∷ L)
 told_record {m = m} {n = n} {L = L} old r few put = record {
-  ordered = put.lawful;
+  ordered = put.ordered;
   each = λ j. each j (eqb r.job j) refl;
   named = λ j. named j (eqb r.job j) refl;
 }
   where
-    here : job_at n r.job ≡ job_in (Some (Record r) ∷ L) r.job
-    here = ap (λ o. unwrap_or o nothing) put.here ∙ (ap (with_action r.action) (old.each r.job) ∙ by_record L r few)
+    at_job : job_at n r.job ≡ job_in (Some (Record r) ∷ L) r.job
+    at_job = ap (λ o. unwrap_or o nothing) (here put) ∙ (ap (with_action r.action) (old.each r.job) ∙ by_record L r few)
 
     each : (j : ℕ) (b : Bool) → eqb r.job j ≡ b → job_at n j ≡ job_in (Some (Record r) ∷ L) j
-    each j true e = subst (λ i. job_at n i ≡ job_in (Some (Record r) ∷ L) i) (eqb-true r.job j e) here
+    each j true e = subst (λ i. job_at n i ≡ job_in (Some (Record r) ∷ L) i) (eqb-true r.job j e) at_job
     each j false e = rw e (ap (λ o. unwrap_or o nothing) (elsewhere put j e) ∙ old.each j)
 
     named : (j : ℕ) (b : Bool) → eqb r.job j ≡ b → is_some (get nat_cmp n j) ≡ (eqb r.job j || is_named L j)
-    named j true e = rw e (subst (λ i. is_some (get nat_cmp n i) ≡ true) (eqb-true r.job j e) (ap is_some put.here))
+    named j true e = rw e (subst (λ i. is_some (get nat_cmp n i) ≡ true) (eqb-true r.job j e) (ap is_some (here put)))
     named j false e = rw e (ap is_some (elsewhere put j e) ∙ old.named j)

@@ -6,8 +6,8 @@ use Rattle.battery.proofs.owners.write_in_memory.Goals as goal
 pub returns : goal.returns
 returns c =
     let memory = c.args.memory.now in let bytes = c.args.bytes.now in
-    let before = held c.battery-pages-store.result in let after = held c.write.new.self in
-    let found = c.battery-pages-store.ensures.rule in let rule = c.write.ensures.rule in
+    let before = held c.battery_pages-store.result in let after = held c.write.new.self in
+    let found = c.battery_pages-store.ensures.rule in let rule = c.write.ensures.rule in
     record {
       value = owner_told memory c.args.page bytes c.write.result before after found rule;
       memory = owner_has memory c.args.page bytes c.write.result before after found rule (search rules);

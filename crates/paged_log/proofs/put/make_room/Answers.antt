@@ -12,8 +12,8 @@ returns-then-next-size g c = Made.done refl (room_past (g.P.PageStore.model c.ar
 pub returns-then-eq : goal.returns-then-eq
 returns-then-eq g c =
     let m = g.P.PageStore.model c.args.pages.now in
-    let read = read_page m _ c.read.result c.in-ok-bytes.bytes c.read.ensures c.in-ok-bytes.was in
-    let same = (slice_eq-Decides Decides-eqb c.in-ok-bytes.bytes blank c.eq.result c.eq.ensures).0 c.if-eq.true in
+    let read = read_page m _ c.read.result c.in_ok-bytes.bytes c.read.ensures c.in_ok-bytes.was in
+    let same = (slice_eq-Decides Decides-eqb c.in_ok-bytes.bytes blank c.eq.result c.eq.ensures).0 c.if-eq.true in
     Made.done refl (room_blank m c.args.n c.requires.0 (ap (λ (k : ℕ). get_or m.pages k []) (sym (add-one _)) ∙ sym read ∙ same))
 
 pub returns : goal.returns

@@ -6,21 +6,21 @@ use Rattle.paged_log.proofs.PagedLogWrites.{wrote_slot, room_lost, room_done}
 use Rattle.paged_log.proofs.PagedLogModel.{read_page}
 use Rattle.paged_log.proofs.put.put.Goals as goal
 
-pub returns-in-err-make-room : goal.returns-in-err-make-room
-returns-in-err-make-room g c =
-    let p = err_from_is_err_and c.from-residual.result c.from-residual.ensures.1 in
+pub returns-in_err-make_room : goal.returns-in_err-make_room
+returns-in_err-make_room g c =
+    let p = err_from_is_err_and c.from_residual.result c.from_residual.ensures.1 in
     let pages = (g.P.PageStore.model c.args.pages.now).pages in
-    let after = g.P.PageStore.model c.make-room.new.pages in
-    rw (p.1, p.2) (subst (λ (r : Result (Unit {0}) PageFault). SlotPut pages c.args.n c.args.slot.now r after) c.in-err-make-room.was
-    (room_lost pages c.args.n c.args.slot.now c.make-room.result c.in-err-make-room.field-0.0 after
-    c.make-room.ensures c.in-err-make-room.was))
+    let after = g.P.PageStore.model c.make_room.new.pages in
+    rw (p.1, p.2) (subst (λ (r : Result (Unit {0}) PageFault). SlotPut pages c.args.n c.args.slot.now r after) c.in_err-make_room.was
+    (room_lost pages c.args.n c.args.slot.now c.make_room.result c.in_err-make_room.field-0.0 after
+    c.make_room.ensures c.in_err-make_room.was))
 
 pub returns : goal.returns
 returns g c =
     let pages = (g.P.PageStore.model c.args.pages.now).pages in
-    let m = g.P.PageStore.model c.make-room.new.pages in
-    wrote_slot pages c.args.n c.args.slot.now c.in-ok-bytes.bytes c.with-slot.result m c.write.result
+    let m = g.P.PageStore.model c.make_room.new.pages in
+    wrote_slot pages c.args.n c.args.slot.now c.in_ok-bytes.bytes c.with_slot.result m c.write.result
     (g.P.PageStore.model c.write.new.self) c.requires.1
-    (room_done pages c.args.n c.make-room.result m c.make-room.ensures c.in-ok-make-room.was)
-    (read_page m _ c.read.result c.in-ok-bytes.bytes c.read.ensures c.in-ok-bytes.was)
-    c.with-slot.ensures c.write.ensures
+    (room_done pages c.args.n c.make_room.result m c.make_room.ensures c.in_ok-make_room.was)
+    (read_page m _ c.read.result c.in_ok-bytes.bytes c.read.ensures c.in_ok-bytes.was)
+    c.with_slot.ensures c.write.ensures

@@ -6,11 +6,11 @@ use Rattle.span.proofs.SpanPageStore.read.Goals as goal
 pub returns-then-page-first : goal.returns-then-page-first
 returns-then-page-first g c =
     read_first (g.A.PageStore.model c.args.self.now.first) (g.B.PageStore.model c.args.self.now.second)
-    (sym c.is-powered.ensures ∙ c.if-not-is-powered.false) c.args.page (omega arith) (omega arith) c.read.result c.read.ensures
+    (sym c.is_powered.ensures ∙ c.if-not-is_powered.false) c.args.page (omega arith) (omega arith) c.read.result c.read.ensures
 
 pub returns : goal.returns
 returns g c =
     let b = g.B.PageStore.model c.args.self.now.second in
     let read = subst (λ (n : ℕ). PageRead b (c.args.page - n) c.read-2.result) c.size-first.ensures c.read-2.ensures in
-    rw c.at-page.ensures (read_second (g.A.PageStore.model c.args.self.now.first) b
-    (sym c.is-powered.ensures ∙ c.if-not-is-powered.false) c.args.page (omega arith) (omega arith) c.read-2.result read)
+    rw c.at_page.ensures (read_second (g.A.PageStore.model c.args.self.now.first) b
+    (sym c.is_powered.ensures ∙ c.if-not-is_powered.false) c.args.page (omega arith) (omega arith) c.read-2.result read)

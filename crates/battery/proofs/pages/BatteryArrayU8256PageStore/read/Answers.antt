@@ -7,15 +7,15 @@ use Rattle.device.proofs.Rows.{as_bytes_is}
 use Rattle.battery.proofs.BatteryRows.{row_at}
 use Rattle.battery.proofs.pages.BatteryArrayU8256PageStore.read.Goals as goal
 
-pub returns-then-place-in-use : goal.returns-then-place-in-use
-returns-then-place-in-use c =
+pub returns-then-place-in_use : goal.returns-then-place-in_use
+returns-then-place-in_use c =
     let h = held c.args.self.now in let e = length_rows 256 most_pages h in
     PageRead.outside c.if-not-self.false (omega arith) refl
 
 pub returns : goal.returns
 returns c =
-    let h = held c.args.self.now in let e = length_rows 256 most_pages h in let row = c.read-one.result in
+    let h = held c.args.self.now in let e = length_rows 256 most_pages h in let row = c.read_one.result in
     let long : length row ≡ 256 = search rules in
     let fits : (k : ℕ) → Fits w8 (get_or row k 0) = λ k. search rules in
     let same = as_bytes_is 256 row long (λ k. (fits k).fits) in
-    PageRead.done c.if-not-self.false (omega arith) (ap Ok (row_at 256 most_pages h c.args.page row same (omega arith) c.read-one.ensures))
+    PageRead.done c.if-not-self.false (omega arith) (ap Ok (row_at 256 most_pages h c.args.page row same (omega arith) c.read_one.ensures))

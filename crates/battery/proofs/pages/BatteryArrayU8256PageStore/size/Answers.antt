@@ -5,4 +5,4 @@ use Rattle.battery.specs.BatterySound.{length_rows}
 use Rattle.battery.proofs.pages.BatteryArrayU8256PageStore.size.Goals as goal
 
 pub returns : goal.returns
-returns c = c.in-use.ensures ∙ sym (length_rows 256 most_pages (held c.args.self.now))
+returns c = c.in_use.ensures ∙ sym (length_rows 256 most_pages (held c.args.self.now))

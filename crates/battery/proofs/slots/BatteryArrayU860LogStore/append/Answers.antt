@@ -11,7 +11,7 @@ use Rattle.battery.proofs.slots.BatteryArrayU860LogStore.append.Goals as goal
 pub returns-then-not-self : goal.returns-then-not-self
 returns-then-not-self c =
     let h = held c.args.self.now in let e = length_rows 60 most_slots h in
-    let next : c.in-use-length.result + 1 ≡ suc (length (rows 60 most_slots h)) = omega arith in
+    let next : c.in_use-length.result + 1 ≡ suc (length (rows 60 most_slots h)) = omega arith in
     record {
       outcome = SlotAppended.no_power c.if-not-self.true (ap (λ n. Err (PowerLost n)) next) refl;
       rule = BatteryAppended.refused refl refl;
@@ -32,9 +32,9 @@ returns c =
     let before = held c.args.self.now in let bytes = c.args.bytes.now in
     let fits : in_use most_slots before < room most_slots before = omega arith in
     let is = as_bytes_is 60 bytes c.told-bytes c.fits-bytes in
-    let did = c.append-one.ensures.held in
+    let did = c.append_one.ensures.held in
     record {
-      outcome = slot_appended before (held c.append-one.new.self) bytes is c.if-not-self.false fits did;
+      outcome = slot_appended before (held c.append_one.new.self) bytes is c.if-not-self.false fits did;
       rule = BatteryAppended.done refl did;
-      lent = c.append-one.ensures.lent;
+      lent = c.append_one.ensures.lent;
     }

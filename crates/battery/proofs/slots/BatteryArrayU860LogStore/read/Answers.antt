@@ -7,17 +7,17 @@ use Rattle.device.proofs.Rows.{as_bytes_is}
 use Rattle.battery.proofs.BatteryRows.{row_at}
 use Rattle.battery.proofs.slots.BatteryArrayU860LogStore.read.Goals as goal
 
-pub returns-then-place-in-use : goal.returns-then-place-in-use
-returns-then-place-in-use c =
+pub returns-then-place-in_use : goal.returns-then-place-in_use
+returns-then-place-in_use c =
     let e = length_rows 60 most_slots (held c.args.self.now) in SlotRead.outside c.if-not-self.false (omega arith) refl
 
 pub returns : goal.returns
 returns c =
-    let h = held c.args.self.now in let e = length_rows 60 most_slots h in let row = c.read-one.result in
+    let h = held c.args.self.now in let e = length_rows 60 most_slots h in let row = c.read_one.result in
     let n = c.args.slot in
     let inside : n - 1 < in_use most_slots h = omega arith in
     let long : length row ≡ 60 = search rules in
     let fits : (k : ℕ) → Fits w8 (get_or row k 0) = λ k. search rules in
     let same = as_bytes_is 60 row long (λ k. (fits k).fits) in
     SlotRead.done c.if-not-self.false (omega arith) (omega arith)
-    (ap Ok (rw sub-one at (row_at 60 most_slots h (n - 1) row same inside c.read-one.ensures)))
+    (ap Ok (rw sub-one at (row_at 60 most_slots h (n - 1) row same inside c.read_one.ensures)))

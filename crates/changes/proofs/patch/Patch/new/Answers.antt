@@ -5,17 +5,17 @@ use Rattle.changes.specs.PatchLaws.{patch_is, patch_range_from, padded_ok, padde
 use Rattle.format.proofs.Rows.{not_empty}
 use Rattle.changes.proofs.patch.Patch.new.Goals as goal
 
-pub invariant-of-result : goal.invariant-of-result
-invariant-of-result c =
-    let some = not_empty c.args.bytes.now c.if-is-empty.ensures in
-    let is = padded_is c.args.bytes.now c.copy-from-slice.new.self c.copy-from-slice.ensures.after in
-    let ok = padded_ok c.args.offset c.args.bytes.now some (omega arith) (omega arith) (λ k. omega (arith, c.type-inv.bytes k)) in
-    (ap (patch_ok c.args.offset (length c.args.bytes.now)) is ∙ ok, tt)
+pub invariant_of-result : goal.invariant_of-result
+invariant_of-result c =
+    let some = not_empty c.args.bytes.now c.if-is_empty.ensures in
+    let is = padded_is c.args.bytes.now c.copy_from_slice.new.self c.copy_from_slice.ensures.after in
+    let ok = padded_ok c.args.offset c.args.bytes.now some (omega arith) (omega arith) (λ k. omega (arith, c.type_inv.bytes k)) in
+    record { formed = ap (patch_ok c.args.offset (length c.args.bytes.now)) is ∙ ok; }
 
 pub returns : goal.returns
 returns c =
-    let some = not_empty c.args.bytes.now c.if-is-empty.ensures in
-    let is = padded_is c.args.bytes.now c.copy-from-slice.new.self c.copy-from-slice.ensures.after in
+    let some = not_empty c.args.bytes.now c.if-is_empty.ensures in
+    let is = padded_is c.args.bytes.now c.copy_from_slice.new.self c.copy_from_slice.ensures.after in
     record {
       made = patch_is _ ∙ ap (patch_of c.args.offset (length c.args.bytes.now)) is;
       range = sym (patch_range_from c.args.offset (length c.args.bytes.now) some (omega arith) (omega arith));

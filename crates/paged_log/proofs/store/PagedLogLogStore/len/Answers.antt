@@ -6,5 +6,5 @@ use Rattle.paged_log.proofs.store.PagedLogLogStore.len.Goals as goal
 pub returns : goal.returns
 returns g c =
     let self = c.args.self.now in
-    LengthRead.done (sym c.is-powered.ensures ∙ c.if-not-is-powered.false)
+    LengthRead.done (sym c.is_powered.ensures ∙ c.if-not-is_powered.false)
     (ap Ok (c.length.ensures ∙ sym (slots_size (g.P.PageStore.model self.pages) self.len self.last)))

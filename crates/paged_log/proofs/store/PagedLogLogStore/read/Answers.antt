@@ -7,11 +7,11 @@ pub returns-then-slot-length : goal.returns-then-slot-length
 returns-then-slot-length g c =
     let self = c.args.self.now in
     let n = slots_size (g.P.PageStore.model self.pages) self.len self.last in
-    SlotRead.outside (sym c.is-powered.ensures ∙ c.if-not-is-powered.false) (omega arith) refl
+    SlotRead.outside (sym c.is_powered.ensures ∙ c.if-not-is_powered.false) (omega arith) refl
 
 pub returns-in-Ok : goal.returns-in-Ok
 returns-in-Ok g c =
     let self = c.args.self.now in
     let m = g.P.PageStore.model self.pages in
-    read_slot m self.len self.last (sym c.is-powered.ensures ∙ c.if-not-is-powered.false) c.args.slot c.in-Ok.bytes c.slot.result
+    read_slot m self.len self.last (sym c.is_powered.ensures ∙ c.if-not-is_powered.false) c.args.slot c.in-Ok.bytes c.slot.result
     (omega arith) (omega arith) (read_page m _ c.read.result c.in-Ok.bytes c.read.ensures c.in-Ok.is) c.slot.ensures

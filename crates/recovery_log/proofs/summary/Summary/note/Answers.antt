@@ -8,9 +8,9 @@ returns g c = λ L old.
     let number : c.in-Some.number ≡ suc (length L) = omega (arith, more, old.slots) in
     record {
       slots = number;
-      jobs = c.in-ok-note-job.ensures L few old.jobs;
-      pages = c.in-ok-note-page.ensures L old.pages;
+      jobs = c.in_ok-note_job.ensures L few old.jobs;
+      pages = c.in_ok-note_page.ensures L old.pages;
       counts = c.count.ensures L few old.counts;
       newest = c.newest-self.ensures L number old.draft old.newest;
-      draft = c.in-ok-note.ensures L number old.draft;
+      draft = c.in_ok-note.ensures L number old.draft;
     }

@@ -4,4 +4,4 @@ use Rattle.scripted_log.proofs.ScriptedOutcomes.{forced_by_plan}
 use Rattle.scripted_log.proofs.store.ScriptedLogLogStore.force.Goals as goal
 
 pub returns : goal.returns
-returns c = forced_by_plan (model c.args.self.now) c.if-not-self.false (omega arith) _ _ _ c.force-or-lose.ensures.value c.force-or-lose.ensures.after
+returns c = forced_by_plan (model c.args.self.now) c.if-not-self.false (omega arith) _ _ _ c.force_or_lose.ensures.value c.force_or_lose.ensures.after

@@ -7,10 +7,10 @@ returns c = record {
     c.copy_from_slice.ensures.after,
     c.to_le_bytes.ensures,
     c.copy_from_slice-2.ensures.after,
-    c.to-le-bytes-2.ensures,
-    c.copy-from-slice-3.ensures.after,
-    c.to-le-bytes-3.ensures,
-    c.copy-from-slice-4.ensures.after,
+    c.to_le_bytes-2.ensures,
+    c.copy_from_slice-3.ensures.after,
+    c.to_le_bytes-3.ensures,
+    c.copy_from_slice-4.ensures.after,
   );
   sized = search rules;
 }
