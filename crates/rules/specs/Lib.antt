@@ -8,8 +8,5 @@ pub mod State
 pub mod Tables
 pub mod Ledger
 pub mod Runs
-pub mod Compensations
-pub mod Promises
-pub mod AnyDevices
 pub mod Runner
 pub mod Examples

@@ -6,8 +6,8 @@ use Rattle.rules.specs.Numbers.{number_of}
 use Rattle.rules.specs.Ledger.{Ledger, empty, with_entry, with_kept, with_doubt, settled}
 use Rattle.rules.specs.Plans.{Plan, Does}
 use Rattle.rules.specs.Restart.{whole, analysis_plan, redo_plan, undo_plan}
-use Rattle.rules.specs.Service.{in_service, open_in, fetch_in, record_in, ship_in, write_out_in, commit_in, abort_in, look_in, checkpoint_in}
-use Rattle.rules.specs.State.{Devices, out, World, Working}
+use Rattle.rules.specs.Service.{open_plan, fetch_plan, record_plan, ship_plan, write_out_plan, commit_plan, abort_plan, look_plan, checkpoint_plan}
+use Rattle.rules.specs.State.{Devices, out, World}
 
 -- Calls, with the job, the page, and what else they are given: a buffer's length, an LRC, bytes
 
@@ -46,20 +46,16 @@ Answer undo = ℕ × ℕ
 Answer (service c) = Answers c
 
 module _ {C : Type 0} (m : Meaning C) where
-  -- the plan of a call once the server is known to serve
-  abbrev pub in_service_plan : (c : ServiceCall) → Devices → Working → Plan C (Answers c)
-  in_service_plan opens d s = open_in m d s
-  in_service_plan (fetches j p n) d s = fetch_in m j p n d s
-  in_service_plan (records j p l b) d s = record_in m j p l b d s
-  in_service_plan (ships j p b) d s = ship_in m j p b d s
-  in_service_plan (writes_out p) d s = write_out_in m p d s
-  in_service_plan (commits j) d s = commit_in m j d s
-  in_service_plan (aborts j) d s = abort_in m j d s
-  in_service_plan (looks p n) d s = look_in m p n d s
-  in_service_plan checkpoints d s = checkpoint_in m d s
-
   abbrev pub service_plan : (c : ServiceCall) → World → Plan C (Answers c)
-  service_plan c w = in_service w (in_service_plan c w.devices)
+  service_plan opens w = open_plan m w
+  service_plan (fetches j p n) w = fetch_plan m w j p n
+  service_plan (records j p l b) w = record_plan m w j p l b
+  service_plan (ships j p b) w = ship_plan m w j p b
+  service_plan (writes_out p) w = write_out_plan m w p
+  service_plan (commits j) w = commit_plan m w j
+  service_plan (aborts j) w = abort_plan m w j
+  service_plan (looks p n) w = look_plan m w p n
+  service_plan checkpoints w = checkpoint_plan m w
 
   abbrev pub plan_of : (c : Call) → World → Plan C (Answer c)
   plan_of analysis w = analysis_plan m w
@@ -98,7 +94,7 @@ module _ {C : Type 0} (m : Meaning C) where
   told_service c (Ok a) h = accepted c h
   told_service c (Err why) h = denied c why h
 
-  -- analysis settles the doubtful jobs as soon as it has powered the log on, and so unless the sizes are out of range
+  -- analysis settles the doubtful jobs as soon as it has powered-on the power, and so unless the sizes are out of range
   abbrev pub resolved : Refusal → World → Ledger C → Ledger C
   resolved why w h = cond (number_of why == 1) h (settled (whole m w.devices) h)
 
@@ -127,7 +123,7 @@ module _ {C : Type 0} (m : Meaning C) where
   }
 
   -- The process may end between calls and a server be made again, whatever power the devices then have. A process that ends within a call is that call
-  -- answered 17 at its next operation, and then a server made again; before the first operation it is as if the call had not been made, but for the power.
+  -- answered 17 at its next operation, and then a server made again.
   pub data Reaches : Ledger C → World → Type 0 where
     made : (n capacity : ℕ) (a b : Bool) → 1 ≤ n → n ≤ 64 → 8 ≤ capacity → capacity ≤ 4096
         → Reaches empty (record { devices = blank n capacity a b; memory = out })
