@@ -3,4 +3,4 @@ use Rattle.tables.proofs.Walking.{least_by_parts}
 use Rattle.tables.proofs.dirty.ask.least.Goals as goal
 
 pub returns-in-len1-up : goal.returns-in-len1-up
-returns-in-len1-up c = c.least-from.ensures ∙ least_by_parts c.args.list.now
+returns-in-len1-up c = c.least_from.ensures ∙ least_by_parts c.args.list.now

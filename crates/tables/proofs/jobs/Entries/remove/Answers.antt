@@ -6,7 +6,7 @@ use Rattle.tables.proofs.jobs.Entries.remove.Goals as goal
 
 pub loop-i-preserved-then-index-job : goal.loop-i-preserved-then-index-job
 loop-i-preserved-then-index-job c = let k = c.loop-i in let h : k.i < length (vec_items k.self.list) = omega (arith, k.self.list.ok.0, c.len.ensures) in let e = c.remove.ensures in
-    (taken_out (without_job c.args.job) _ _ _ k.i no_entry h k.invariant.0 (that_job _ _ _ (job_read _ _ _ _ h c.index.ensures c.if-index-job.true)) e.places.2, omega (arith, e.len), e.capacity ∙ k.invariant.2, omega (arith, e.len))
+    (taken_out (without_job c.args.job) _ _ _ k.i no_entry h k.invariant.0 (that_job _ _ _ (job_read _ _ _ _ h c.index.ensures c.if-index-job.true)) e.by_index.2, omega (arith, e.len), e.capacity ∙ k.invariant.2, omega (arith, e.len))
 
 pub loop-i-preserved : goal.loop-i-preserved
 loop-i-preserved c = let k = c.loop-i in let h : k.i < length (vec_items k.self.list) = omega (arith, k.self.list.ok.0, c.len.ensures) in
