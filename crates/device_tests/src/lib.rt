@@ -2,12 +2,12 @@
 #![tactic(auto)]
 
 #[cfg(test)]
-mod battery;
+mod battery_memory;
 #[cfg(test)]
 mod counting;
 #[cfg(test)]
-mod paged_log;
+mod logs_on_pages;
 #[cfg(test)]
 mod scripted;
 #[cfg(test)]
-mod span;
+mod spans;
