@@ -1,5 +1,5 @@
 -- What battery memory holds, and what each operation makes of it, for elements of any type. Assumes nothing.
-use Rattle.std.specs.Prelude.{◌≡◌, ℕ, zero, suc, pred, ◌+◌, ◌-◌, min, Bool, true, false, cond, List, length, set, ◌==◌, slice_set}
+use Rattle.std.specs.Prelude.{◌≡◌, ℕ, zero, suc, pred, ◌+◌, ◌-◌, min, Bool, true, false, cond, List, length, ◌==◌, slice_set}
 use Rattle.battery.specs.declared.PowerCut.{PowerCut}
 use Rattle.battery.specs.declared.Battery.{Battery}
 

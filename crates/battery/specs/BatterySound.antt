@@ -1,6 +1,6 @@
 -- Battery memory is a sound page store and a sound log store, whatever its struct holds. Assumes nothing.
 use Rattle.std.specs.Prelude.{◌≡◌, ℕ, zero, suc, ◌<◌, List, [], ◌∷◌, map, length, take, slice_index_or, refl}
-use Rattle.std.proofs.Common.{ap, arith, lit<, length-take}
+use Rattle.std.proofs.Common.{ap, arith, length-take}
 use Rattle.format.specs.Bytes.{Bytes}
 use Rattle.device.specs.Memory.{as_bytes, as_bytes_size, as_bytes_small}
 use Rattle.device.specs.PageStores.{SoundPages}

@@ -1,8 +1,7 @@
 -- The nine kinds, one after the other: what a slot's fields are, and which slot fields give. Assumes nothing.
-use Rattle.std.proofs.Common.{◌≡◌, ℕ, zero, suc, Bool, true, false, cond, ◌&&◌, ◌||◌, eqb, List, [], ◌∷◌, length, replicate, is_some, Some, None, Option, sym, refl, ap, ◌∙◌, subst, arith}
+use Rattle.std.proofs.Common.{◌≡◌, ℕ, zero, suc, Bool, true, false, cond, ◌||◌, eqb, length, replicate, is_some, Some, None, Option, sym, refl, ap, ◌∙◌, arith}
 use Rattle.std.specs.Option.{option_map}
-use Rattle.std.proofs.lemmas.Bool.{and_parts, or_cases, eqb-true}
-use Rattle.std.proofs.lemmas.Bool.Decides.{nat_tests}
+use Rattle.std.proofs.lemmas.Bool.{and_parts, eqb-true}
 use Rattle.format.specs.declared.slot.Slot.{Slot}
 use Rattle.format.specs.declared.slot.Slot.TheVariants.{Record, Job, Checkpoint}
 use Rattle.format.specs.declared.slot.PageRecord.{PageRecord}
@@ -15,7 +14,7 @@ use Rattle.format.specs.declared.slot.fields.Uses.{Uses}
 use Rattle.format.specs.Bytes.{all_zero}
 use Rattle.format.proofs.Rows.{all_zero_is}
 use Rattle.format.specs.Changes.{Meaning, Lawful}
-use Rattle.format.specs.Slots.{uses_of, kinds, at_kind, by_kind, flat, slot_of, slot_fields, unused_zero, only_by, record_of, record_from, change_fits, no_change, kind_of_action}
+use Rattle.format.specs.Slots.{uses_of, kinds, at_kind, by_kind, flat, slot_of, slot_fields, unused_zero, only_by, record_of, change_fits, no_change, kind_of_action}
 
 -- Fields of a slot
 

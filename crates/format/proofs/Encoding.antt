@@ -1,8 +1,6 @@
 -- Every slot has one encoding: what is written reads back, and what reads is what is written. Assumes nothing.
-use Rattle.std.proofs.Common.{◌≡◌, ℕ, Bool, true, false, cond, ◌&&◌, List, length, get_or, take, drop, is_some, is_ok, IfOk, Some, None, Ok, Err, Option, Result, sym, refl, ap, ◌∙◌, subst, arith}
-use Rattle.std.specs.Option.{ok_or}
+use Rattle.std.proofs.Common.{◌≡◌, ℕ, Bool, true, false, cond, ◌&&◌, List, length, get_or, take, drop, is_some, is_ok, IfOk, Some, None, Ok, Err, Option, Result, sym, refl, ap, ◌∙◌, arith}
 use Rattle.std.proofs.lemmas.Bool.{and_parts, cond-true}
-use Rattle.std.proofs.lemmas.Bool.Decides.{nat_tests}
 use Rattle.std.proofs.lemmas.List.{length-take-le, length-drop}
 use Rattle.format.specs.declared.slot.Slot.{Slot}
 use Rattle.format.specs.declared.slot.Misfit.{Misfit}
@@ -11,7 +9,7 @@ use Rattle.format.specs.declared.slot.fields.Fields.{Fields}
 use Rattle.format.specs.declared.slot.fields.Uses.{Uses}
 use Rattle.format.specs.Bytes.{Bytes}
 use Rattle.format.specs.Changes.{Meaning, Lawful}
-use Rattle.format.specs.Slots.{uses_of, fields_of, padding_zero, laid_out, Sized, unused_zero, page_fits, job_fits, lrc_fits, link_fits, change_fits, in_range, in_range_by, fits, fits_by, slot_of, slot_fields, only_by, only_used, slot_bytes, slot_fits, misfit_of, unless, or_slot, read_by, read_slot}
+use Rattle.format.specs.Slots.{uses_of, fields_of, padding_zero, laid_out, Sized, unused_zero, page_fits, job_fits, lrc_fits, link_fits, in_range_by, fits, fits_by, slot_of, slot_fields, only_by, only_used, slot_bytes, slot_fits, misfit_of, unless, or_slot, read_by, read_slot}
 use Rattle.format.proofs.ByKind.{rowed, slot_of_fields, change_length, only_clean, fields_of_slot, has_slot}
 use Rattle.format.proofs.Laid.{fields_laid_out, padding_laid_out, laid_out_fields}
 

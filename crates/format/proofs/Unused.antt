@@ -1,6 +1,6 @@
 -- All bytes that a kind does not use are zero: a test over the whole table of kinds, and the lemma that carries it to every slot.
 -- Assumes nothing.
-use Rattle.std.proofs.Common.{◌≡◌, ℕ, zero, suc, ◌<◌, ◌≤◌, Bool, true, false, cond, not, ◌&&◌, ◌||◌, ◌⊎◌, List, [], ◌∷◌, ◌++◌, length, get_or, replicate, Some, None, Option, unwrap_or, sym, refl, ap, ◌∙◌, subst, ⊎_elim, arith}
+use Rattle.std.proofs.Common.{◌≡◌, ℕ, zero, suc, ◌<◌, ◌≤◌, Bool, true, false, cond, not, ◌&&◌, ◌||◌, List, [], ◌∷◌, ◌++◌, length, get_or, replicate, Some, Option, unwrap_or, sym, refl, ap, ◌∙◌, subst, ⊎_elim, arith}
 use Rattle.std.specs.Option.{option_map}
 use Rattle.std.proofs.lemmas.Bool.{and_parts, cases_lt, true≢false, cond-false}
 use Rattle.std.proofs.lemmas.List.{get_or_past}
@@ -12,7 +12,7 @@ use Rattle.format.specs.declared.slot.CheckpointPart.TheVariants.{Begin, DirtyPa
 use Rattle.format.specs.Bytes.{spelled}
 use Rattle.format.specs.Changes.{Meaning, Lawful}
 use Rattle.format.proofs.ByKind.{rowed, change_length}
-use Rattle.format.specs.Slots.{kinds, nth, at_kind, uses_of, uses_byte, kind_uses_byte, laid_out, only_by, no_change, kind_of, slot_fields, slot_bytes}
+use Rattle.format.specs.Slots.{kinds, nth, uses_of, uses_byte, kind_uses_byte, laid_out, only_by, no_change, kind_of, slot_fields, slot_bytes}
 
 -- The test
 

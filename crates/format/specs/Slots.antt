@@ -1,10 +1,9 @@
 -- A slot in 60 bytes: the nine kinds and the fields that each uses, when bytes fit, and what they are read as.
 -- Assumes nothing.
-use Rattle.std.specs.Prelude.{◌≡◌, ℕ, zero, suc, ◌^◌, ◌<◌, Bool, true, false, cond, not, ◌&&◌, ◌||◌, List, [], ◌∷◌, ◌++◌, length, take, drop, replicate, is_some, Some, None, Ok, Err, Option, Result, ◌==◌, nat_le, nat_lt, slice_index}
+use Rattle.std.specs.Prelude.{◌≡◌, ℕ, zero, suc, ◌^◌, ◌<◌, Bool, true, false, cond, not, ◌&&◌, ◌||◌, List, [], ◌∷◌, ◌++◌, length, take, drop, replicate, is_some, Some, None, Err, Option, Result, ◌==◌, nat_le, nat_lt, slice_index}
 use Rattle.std.specs.Option.{option_map, ok_or, unwrap_or}
 use Rattle.format.specs.declared.slot.Slot.{Slot}
 use Rattle.format.specs.declared.slot.Slot.TheVariants.{Record, Job, Checkpoint}
-use Rattle.format.specs.declared.slot.PageRecord.{PageRecord}
 use Rattle.format.specs.declared.slot.Action.{Action}
 use Rattle.format.specs.declared.slot.Action.TheVariants.{Put, TakeBack}
 use Rattle.format.specs.declared.slot.JobEvent.{JobEvent}

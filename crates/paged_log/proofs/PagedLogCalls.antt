@@ -6,7 +6,6 @@ use Rattle.std.proofs.lemmas.Slice.Eq.{bytes_eq-Decides}
 use Rattle.std.proofs.lemmas.Bool.{cond_both, and_from, and_left, lt-ltb, le-ltb}
 use Rattle.format.specs.Bytes.{Bytes}
 use Rattle.device.specs.declared.page_store.PageFault.{PageFault}
-use Rattle.device.specs.declared.page_store.PageFault.TheVariants.{PowerLost}
 use Rattle.device.specs.declared.log_store.LogFault.{LogFault}
 use Rattle.device.specs.declared.log_store.LogFault.TheVariants as fault
 use Rattle.device.specs.Memory.{as_bytes}

@@ -1,5 +1,5 @@
 -- The model of a log on pages: what its making gives, and what each call makes of it.
-use Rattle.std.proofs.Common.{◌≡◌, ℕ, suc, pred, ◌+◌, ◌-◌, ◌*◌, ◌/◌, ◌%◌, ◌<◌, ◌≤◌, min, Bool, true, false, ltb, ◌⊎◌, List, [], ◌∷◌, ◌++◌, length, get_or, take, Ok, Result, sym, refl, ap, ◌∙◌, subst, ⊎_elim, arith}
+use Rattle.std.proofs.Common.{◌≡◌, ℕ, suc, pred, ◌-◌, ◌/◌, ◌%◌, ◌<◌, ◌≤◌, min, Bool, true, false, ltb, List, [], ◌∷◌, ◌++◌, length, get_or, take, Ok, Result, sym, refl, ap, ◌∙◌, subst, ⊎_elim, arith}
 use Rattle.std.specs.Str.{bytes_eq}
 use Rattle.std.proofs.lemmas.List.{take_all, take_at, length_push}
 use Rattle.std.proofs.lemmas.Slice.Eq.{bytes_eq-Decides}
@@ -8,7 +8,7 @@ use Rattle.device.specs.declared.page_store.PageFault.{PageFault}
 use Rattle.device.specs.Memory.{as_bytes}
 use Rattle.device.specs.PageStores as store
 use Rattle.device.specs.PageStores.{PageModel, PageRead}
-use Rattle.device.specs.LogStores.{LogModel, SlotRead, LogForced, state, powered_on}
+use Rattle.device.specs.LogStores.{LogModel, SlotRead, LogForced, state}
 use Rattle.paged_log.specs.PagedLogs.{count_of, slot_in, slot_at, first_slots, log_length, stands, held, sure, room, paged, found, Says, at_power}
 use Rattle.paged_log.specs.PagedLogsSound.{length_first, get_or_first, held_size}
 use Rattle.paged_log.proofs.PagedLogEnds.{take_first, length_most}

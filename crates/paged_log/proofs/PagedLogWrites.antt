@@ -1,16 +1,14 @@
 -- Writes of a page, as they make room and put a slot.
-use Rattle.std.proofs.Common.{◌≡◌, ℕ, zero, suc, ◌*◌, ◌/◌, ◌%◌, ◌<◌, ◌≤◌, Bool, true, false, ◌&&◌, eqb, ltb, ◌⊎◌, List, [], ◌∷◌, length, get_or, set, Ok, Err, Decides, Result, sym, refl, ap, ◌∙◌, subst, ⊎_elim, arith}
+use Rattle.std.proofs.Common.{◌≡◌, ℕ, suc, ◌*◌, ◌/◌, ◌%◌, ◌<◌, ◌≤◌, Bool, true, false, ◌&&◌, eqb, ltb, List, [], length, get_or, set, Ok, Err, Decides, Result, sym, refl, ap, ◌∙◌, subst, ⊎_elim, arith}
 use Rattle.std.specs.Str.{bytes_eq}
 use Rattle.std.proofs.lemmas.List.{set_past, set-get_or}
 use Rattle.std.proofs.lemmas.Slice.Eq.{bytes_eq-Decides}
 use Rattle.std.proofs.lemmas.Bool.Decides.{same_from_decides}
 use Rattle.std.proofs.lemmas.Bool.{cases_Bool, eq-eqb, lt-ltb, le-ltb, both_ways}
 use Rattle.device.specs.declared.page_store.PageFault.{PageFault}
-use Rattle.device.specs.Memory.{as_bytes}
 use Rattle.device.specs.PageStores.{PageModel, PageWritten}
 use Rattle.paged_log.specs.PagedLogs.{count_of, slot_in, slot_at, stands, blank, page_with, room_made, put_slot, at_power, Made, SlotPut}
 use Rattle.paged_log.proofs.PagedLogSteps.{room_size}
-use Rattle.device.proofs.Rows.{as_bytes_is}
 
 -- whether a slot stands, as the code asks
 pub stands_not : (pages : List (List ℕ)) (n : ℕ) (slot bytes : List ℕ) → bytes ≡ get_or pages (n / 4) [] → count_of bytes ≤ n % 4 → false ≡ stands pages n slot

@@ -1,6 +1,6 @@
 -- What a log says: of its jobs, of its pages, and of its checkpoints.
 -- A log is the list of its slots with the newest first; a slot whose bytes do not fit is None. Assumes nothing.
-use Rattle.std.specs.Prelude.{◌≡◌, ℕ, suc, Bool, true, false, cond, ◌&&◌, ◌||◌, List, [], ◌∷◌, length, Some, None, Option, ◌==◌}
+use Rattle.std.specs.Prelude.{ℕ, suc, Bool, true, false, cond, ◌&&◌, ◌||◌, List, [], ◌∷◌, length, Some, None, Option, ◌==◌}
 use Rattle.format.specs.declared.slot.Slot.{Slot}
 use Rattle.format.specs.declared.slot.Slot.TheVariants.{Record, Job, Checkpoint}
 use Rattle.format.specs.declared.slot.PageRecord.{PageRecord}

@@ -1,5 +1,5 @@
 -- What a summary tells of a log. Assumes nothing.
-use Rattle.std.specs.Prelude.{◌≡◌, ℕ, ◌+◌, ◌-◌, ◌^◌, ◌<◌, min, Bool, true, false, ◌||◌, List, [], ◌∷◌, length, is_some, IfSome, Some, None, Ok, Err, Option, Result, ◌==◌, slice_index}
+use Rattle.std.specs.Prelude.{◌≡◌, ℕ, ◌+◌, ◌-◌, ◌^◌, ◌<◌, min, Bool, false, ◌||◌, List, [], ◌∷◌, length, is_some, IfSome, Some, None, Ok, Err, Option, Result, ◌==◌, slice_index}
 use Rattle.std.specs.BTreeMap.{BTreeMap}
 use Rattle.std.specs.BTreeMap.{IsOrdered, get}
 use Rattle.std.specs.BTreeSet as sets

@@ -1,5 +1,5 @@
 -- The worked runs, computed, and that each is a run. Assumes nothing.
-use Rattle.std.proofs.Common.{◌≡◌, ℕ, ◌≤◌, true, List, refl, lit≤}
+use Rattle.std.proofs.Common.{ℕ, ◌≤◌, true, List, refl, lit≤}
 use Rattle.changes.specs.Additions.{addition_meaning}
 use Rattle.format.specs.Changes.{Meaning}
 use Rattle.changes.specs.Patches.{patch_meaning}

@@ -1,5 +1,5 @@
 -- The ledger: a plain machine that is told the calls and their answers, and says what each page should hold. Assumes nothing.
-use Rattle.std.specs.Prelude.{ℕ, Bool, true, false, cond, not, ◌&&◌, ◌||◌, List, [], ◌∷◌, ◌++◌, replicate, Some, None, Option, ◌==◌}
+use Rattle.std.specs.Prelude.{ℕ, Bool, false, cond, ◌&&◌, ◌||◌, List, [], ◌∷◌, ◌++◌, replicate, Some, None, Option, ◌==◌}
 use Rattle.format.specs.Changes.{Meaning}
 use Rattle.recovery_log.specs.Log.{Log, is_committed}
 

@@ -1,5 +1,5 @@
 -- The log as the server reads it: bytes become slots, and passes go over them one by one. Assumes nothing.
-use Rattle.std.specs.Prelude.{ℕ, suc, Bool, true, false, cond, List, [], ◌∷◌, Some, None, Ok, Err, Option, Result, ◌==◌, nat_le, nat_lt, slice_index}
+use Rattle.std.specs.Prelude.{ℕ, suc, cond, List, [], ◌∷◌, None, Ok, Err, Option, Result, ◌==◌, nat_le, nat_lt, slice_index}
 use Rattle.std.specs.Result.{result_ok}
 use Rattle.format.specs.declared.slot.Slot.{Slot}
 use Rattle.format.specs.Changes.{Meaning}

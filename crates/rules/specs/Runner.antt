@@ -1,8 +1,6 @@
 -- Runs a plan on devices whose free choices are given: at which operation power is lost, what that leaves, how far appends raise the
 -- forced count. A case of what a plan may come to. Assumes nothing.
-use Rattle.std.specs.Prelude.{ℕ, suc, pred, ◌+◌, min, Bool, true, false, cond, List, [], ◌∷◌, length, Ok, Err, Result, ◌==◌, nat_lt}
-use Rattle.format.specs.declared.page.Page.{Page}
-use Rattle.format.specs.declared.slot.Slot.{Slot}
+use Rattle.std.specs.Prelude.{ℕ, suc, pred, ◌+◌, min, Bool, true, false, List, [], ◌∷◌, length, Ok, Err, Result, ◌==◌, nat_lt}
 use Rattle.format.specs.Changes.{Meaning}
 use Rattle.format.specs.Pages.{page_bytes}
 use Rattle.format.specs.Slots.{slot_bytes}

@@ -1,5 +1,5 @@
 -- What tools read and set in the memory of a log store, by its number, whether or not there is power. Assumes nothing.
-use Rattle.std.specs.Prelude.{ℕ, pred, Bool, false, cond, ◌&&◌, List, [], length, set, Some, None, Option, nat_le, nat_lt, slice_index_or, slice_set}
+use Rattle.std.specs.Prelude.{ℕ, pred, Bool, false, cond, ◌&&◌, List, [], length, Some, None, Option, nat_le, nat_lt, slice_index_or, slice_set}
 use Rattle.device.specs.LogStores.{LogModel, state, with_slot, new_slot}
 
 -- slots are numbered from 1 on

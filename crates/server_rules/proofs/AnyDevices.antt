@@ -10,7 +10,7 @@ use Rattle.server_rules.specs.Plans.{Does}
 use Rattle.server_rules.specs.Reading.{at}
 use Rattle.server_rules.specs.Restart.{whole, analysis_plan, redo_plan, undo_plan}
 use Rattle.server_rules.specs.Runs.{ServiceCall, opens, fetches, records, ships, writes_out, commits, aborts, looks, checkpoints, Call, analysis, redo, undo, service, Answer, in_service_plan, service_plan, plan_of}
-use Rattle.server_rules.specs.Service.{log_read, change_of, ready}
+use Rattle.server_rules.specs.Service.{log_read, change_of}
 use Rattle.server_rules.specs.State.{Devices, Working, Memory, out, analysed, redone, serving, World}
 use Rattle.server_rules.specs.Tables.{is_job, next_of}
 use Rattle.server_rules.proofs.AnyDevicesAbort.{abort_job, change_is}

@@ -1,5 +1,5 @@
 -- Going through the questions of a plan, and through the first questions of a call in service.
-use Rattle.std.proofs.Common.{◌≡◌, Bool, true, false, List, Ok, Err, Result, sym, refl, ◌∙◌}
+use Rattle.std.proofs.Common.{◌≡◌, Bool, true, List, Err, Result, sym, refl, ◌∙◌}
 use Rattle.std.proofs.lemmas.Bool.{false≢true}
 use Rattle.format.specs.Changes.{Meaning}
 use Rattle.server_rules.specs.declared.refusal.Refusal.{Refusal}
@@ -8,7 +8,7 @@ use Rattle.server_rules.specs.Ledger.{Ledger}
 use Rattle.server_rules.specs.Plans.{Op, Plan, asks, insists, performs, Performed, Does, refused, granted, stopped, passed, performed}
 use Rattle.server_rules.specs.Service.{ready, in_service}
 use Rattle.server_rules.specs.State.{Devices, Memory, out, analysed, redone, serving, World, Working, sizes_legal}
-use Rattle.server_rules.proofs.Invariants.{Kept, Powered, Settled, Serving, Entered, Stage, Good}
+use Rattle.server_rules.proofs.Invariants.{Kept, Powered, Stage, Good}
 
 module _ {C : Type 0} (m : Meaning C) where
   -- a question: refused with everything as it was, or granted

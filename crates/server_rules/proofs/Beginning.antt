@@ -1,7 +1,6 @@
 -- A restart over blank devices.
-use Rattle.std.proofs.Common.{◌≡◌, ℕ, ◌≤◌, Bool, true, false, eqb, List, [], length, replicate, Ok, Err, Result, refl, ap, ◌∙◌, subst, arith}
+use Rattle.std.proofs.Common.{◌≡◌, ℕ, ◌≤◌, Bool, true, false, eqb, [], length, replicate, Ok, Result, refl, ap, ◌∙◌, subst}
 use Rattle.std.proofs.lemmas.Bool.{both_ways}
-use Rattle.format.specs.declared.page.Page.{Page}
 use Rattle.format.specs.Changes.{Meaning, Lawful}
 use Rattle.format.specs.Pages.{blank_page}
 use Rattle.server_rules.specs.declared.refusal.Refusal.{Refusal}

@@ -1,17 +1,14 @@
 -- A restart that was cut anywhere and then finished keeps the same jobs, and so reaches the same content, as one that was not.
-use Rattle.std.proofs.Common.{◌≡◌, ℕ, Bool, cond, ◌&&◌, eqb, List, [], ◌∷◌, ◌++◌, Ok, Err, Result, sym, refl, ap, ◌∙◌, subst, ap₂}
-use Rattle.format.specs.declared.page.Page.{Page}
+use Rattle.std.proofs.Common.{◌≡◌, ℕ, Bool, cond, ◌&&◌, eqb, List, [], ◌∷◌, ◌++◌, sym, refl, ap, ◌∙◌, subst, ap₂}
 use Rattle.format.specs.Changes.{Meaning, Lawful}
-use Rattle.recovery_log.specs.Log.{Log}
-use Rattle.server_rules.specs.declared.refusal.Refusal.{Refusal}
 use Rattle.server_rules.specs.Ledger.{Ledger, Entry, is_in, committed_of, settled, content_by, content_of}
 use Rattle.server_rules.specs.Plans.{powered_on}
 use Rattle.server_rules.specs.Promises.{Restarted, Passes, none, remade, analyses, redoes, undoes, copy_in}
 use Rattle.server_rules.specs.Restart.{whole, undone}
 use Rattle.server_rules.specs.Service.{copy_of}
-use Rattle.server_rules.specs.State.{Devices, Memory, out, analysed, redone, serving, World, Working, working}
+use Rattle.server_rules.specs.State.{Devices, Memory, World, Working, working}
 use Rattle.server_rules.proofs.Finishing.{undo_comes}
-use Rattle.server_rules.proofs.Invariants.{Kept, Settled, Stage, Good}
+use Rattle.server_rules.proofs.Invariants.{Settled, Stage, Good}
 use Rattle.server_rules.proofs.Looking.{free_content}
 use Rattle.server_rules.proofs.Powering.{kept_powered_on, kept_with_powers, settles}
 use Rattle.server_rules.proofs.Restarting.{analysis_comes, redo_comes}

@@ -1,10 +1,9 @@
 -- What undo comes to in a good state: it is accepted or loses power, and leaves a server that serves with no job open.
-use Rattle.std.proofs.Common.{◌≡◌, ℕ, suc, pred, ◌<◌, ◌≤◌, Bool, true, false, cond, ◌||◌, List, [], ◌∷◌, map, length, get_or, replicate, Some, None, Ok, Err, Option, Result, sym, refl, ap, ◌∙◌, subst, inl, inr, ⊎_elim, arith}
+use Rattle.std.proofs.Common.{◌≡◌, ℕ, Bool, true, false, ◌||◌, List, [], ◌∷◌, map, length, get_or, replicate, Some, None, Ok, Err, Option, Result, sym, refl, ap, ◌∙◌, subst, ⊎_elim, arith}
 use Rattle.std.proofs.lemmas.Bool.{false≢true, or_cases, both_ways}
 use Rattle.format.specs.declared.page.Page.{Page}
 use Rattle.format.specs.declared.slot.Slot.{Slot}
 use Rattle.format.specs.declared.slot.Slot.TheVariants.{Record, Job, Checkpoint}
-use Rattle.format.specs.declared.slot.JobEvent.{JobEvent}
 use Rattle.format.specs.declared.slot.JobEvent.TheVariants.{Open, Commit, End}
 use Rattle.format.specs.Changes.{Meaning, Lawful}
 use Rattle.format.specs.Pages.{page_of}
@@ -12,18 +11,18 @@ use Rattle.device.specs.PageStores.{PageModel}
 use Rattle.recovery_log.specs.Log.{Log, is_open, is_committed, Numbered}
 use Rattle.server_rules.specs.declared.refusal.Refusal.{Refusal}
 use Rattle.server_rules.specs.declared.refusal.Refusal.TheVariants.{NotTheNextPass}
-use Rattle.server_rules.specs.Ledger.{Ledger, is_in}
+use Rattle.server_rules.specs.Ledger.{Ledger}
 use Rattle.server_rules.specs.Numbers.{number_of}
 use Rattle.server_rules.specs.Plans.{force, Performed, Does}
-use Rattle.server_rules.specs.Restart.{whole, undone, Undone, undone_plan, undo_plan}
+use Rattle.server_rules.specs.Restart.{whole, undone, undone_plan, undo_plan}
 use Rattle.server_rules.specs.Service.{copy_of, appends}
 use Rattle.server_rules.specs.State.{Devices, Working, Memory, out, analysed, redone, serving, World, size, log_length}
-use Rattle.server_rules.specs.Tables.{Jobs, held_by}
+use Rattle.server_rules.specs.Tables.{Jobs}
 use Rattle.server_rules.proofs.Appends.{Plain, safe_appends, dids_appends}
 use Rattle.server_rules.proofs.Asking.{asked, answered, performing, readied}
 use Rattle.server_rules.proofs.Cuts.{older_up_to}
 use Rattle.server_rules.proofs.Images.{image_lrc}
-use Rattle.server_rules.proofs.Invariants.{bare, live, entry_of, entries_by, pile_by, stored_lrcs, Durable, Kept, Settled, First, Redone, Copy, Serving, Entered, Stage, Good}
+use Rattle.server_rules.proofs.Invariants.{live, entry_of, pile_by, Durable, Kept, Settled, Redone, Copy, Serving, Entered, Stage, Good}
 use Rattle.server_rules.proofs.Legal.{count, pile, image, whole_page, open_jobs, Older, same, more}
 use Rattle.server_rules.proofs.Membership.{In, here, there}
 use Rattle.server_rules.proofs.Operations.{Forced, did_force, performed_safe}

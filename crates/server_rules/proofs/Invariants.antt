@@ -1,9 +1,9 @@
 -- What holds in every state of a run: of the devices at all times, of the ledger at all times, and of the server's memory by its stage.
 -- Definitions for proofs only. Assumes nothing.
-use Rattle.std.proofs.Common.{◌≡◌, ℕ, suc, pred, ◌<◌, ◌≤◌, Bool, true, false, cond, ◌&&◌, ◌||◌, eqb, List, [], ◌∷◌, map, length, get_or, replicate, Some, None, Ok, Err, unwrap_or}
+use Rattle.std.proofs.Common.{◌≡◌, ℕ, pred, ◌≤◌, Bool, true, false, cond, ◌&&◌, ◌||◌, eqb, List, [], ◌∷◌, map, length, get_or, replicate, Some, Ok, unwrap_or}
 use Rattle.std.specs.Option.{option_map}
 use Rattle.format.specs.declared.page.Page.{Page}
-use Rattle.format.specs.declared.slot.Slot.TheVariants.{Record, Job, Checkpoint}
+use Rattle.format.specs.declared.slot.Slot.TheVariants.{Checkpoint}
 use Rattle.format.specs.declared.slot.CheckpointPart.TheVariants.{Complete}
 use Rattle.format.specs.Changes.{Meaning}
 use Rattle.format.specs.Pages.{page_of}

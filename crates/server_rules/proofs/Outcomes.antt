@@ -1,5 +1,5 @@
 -- What the runner makes of a plan is something that the plan may come to. Assumes nothing.
-use Rattle.std.proofs.Common.{◌≡◌, ℕ, suc, ◌+◌, ◌<◌, ◌≤◌, min, Bool, true, false, cond, eqb, ltb, List, [], ◌∷◌, ◌++◌, length, Ok, Err, Result, sym, refl, ap, ◌∙◌, subst, arith, length-append}
+use Rattle.std.proofs.Common.{◌≡◌, ℕ, ◌<◌, ◌≤◌, Bool, true, false, ltb, List, [], ◌∷◌, length, Ok, Err, Result, sym, refl, subst, arith, length-append}
 use Rattle.std.proofs.lemmas.List.{length-take-le}
 use Rattle.std.proofs.lemmas.Bool.{ltb-true, ltb-false}
 use Rattle.format.specs.declared.page.Page.{Page}
@@ -8,8 +8,8 @@ use Rattle.format.specs.Changes.{Meaning}
 use Rattle.format.specs.Pages.{page_bytes}
 use Rattle.format.specs.Slots.{slot_bytes}
 use Rattle.device.specs.declared.log_store.LogFault.{LogFault}
-use Rattle.device.specs.PageStores.{PageModel, PageWritten}
-use Rattle.device.specs.LogStores.{LogModel, SlotAppended, LogForced, new_slot}
+use Rattle.device.specs.PageStores.{PageWritten}
+use Rattle.device.specs.LogStores.{LogModel, SlotAppended, LogForced}
 use Rattle.server_rules.specs.declared.refusal.Refusal.{Refusal}
 use Rattle.server_rules.specs.Plans.{Op, append, force, write, Plan, asks, insists, powers_on, performs, Did, Failed, Performed, done, next, Does, refused, granted, stopped, passed, began, performed, powered_on}
 use Rattle.server_rules.specs.Runner.{Failure, Left, old, new, without_slot, with_its_slot, more, fails_now, raised, Made, append_by, append_in, append_with, force_by, force_with, write_by, write_in, write_with, run_op, run_ops, run, go_on, later}

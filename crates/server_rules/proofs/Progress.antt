@@ -1,8 +1,7 @@
 -- Where power is kept a restart finishes: every safe operation can be done, and so each pass can be accepted.
-use Rattle.std.proofs.Common.{◌≡◌, ℕ, List, [], ◌∷◌, length, None, Ok, Option, Result, sym, refl, subst, arith}
+use Rattle.std.proofs.Common.{ℕ, List, [], ◌∷◌, length, Ok, Option, Result, sym, refl, subst, arith}
 use Rattle.format.specs.declared.slot.Slot.{Slot}
 use Rattle.format.specs.Changes.{Meaning, Lawful}
-use Rattle.format.specs.Slots.{slot_bytes}
 use Rattle.device.specs.LogStores.{SlotAppended, LogForced}
 use Rattle.device.specs.PageStores.{PageWritten}
 use Rattle.server_rules.specs.declared.refusal.Refusal.{Refusal}
@@ -10,7 +9,7 @@ use Rattle.server_rules.specs.Ledger.{Ledger, settled}
 use Rattle.server_rules.specs.Plans.{Op, append, force, write, Did, Performed, done, next, Does, granted, passed, began, performed, powered_on}
 use Rattle.server_rules.specs.Promises.{Restarted}
 use Rattle.server_rules.specs.Reading.{last_end}
-use Rattle.server_rules.specs.Restart.{whole, analysed_plan, analysis_plan, Replay, redone_plan, redo_plan, undone, undone_plan, undo_plan}
+use Rattle.server_rules.specs.Restart.{whole, analysed_plan, Replay, redone_plan, undone, undone_plan}
 use Rattle.server_rules.specs.Service.{appends}
 use Rattle.server_rules.specs.State.{Devices, Found, Working, Memory, out, analysed, redone, serving, World, size, slots}
 use Rattle.server_rules.specs.Tables.{least_start}
@@ -18,9 +17,9 @@ use Rattle.server_rules.proofs.Analysis.{AnalysisTrue, analysis_done, last_ends,
 use Rattle.server_rules.proofs.Appends.{safe_appends}
 use Rattle.server_rules.proofs.Decoded.{whole_length}
 use Rattle.server_rules.proofs.Finishing.{closes_plain}
-use Rattle.server_rules.proofs.Invariants.{Kept, Powered, Analysed, Redone, Good}
+use Rattle.server_rules.proofs.Invariants.{Kept, Powered, Analysed, Good}
 use Rattle.server_rules.proofs.Operations.{safe_did}
-use Rattle.server_rules.proofs.Powering.{powered_on_power, powered_on_forced, kept_powered_on, settles}
+use Rattle.server_rules.proofs.Powering.{powered_on_power, powered_on_forced, settles}
 use Rattle.server_rules.proofs.Redo.{none_ahead_true, ReplayedTrue, redo_replays, redone_with, redo_done}
 use Rattle.server_rules.proofs.Safety.{Safe, SafeOps, Dids}
 use Rattle.server_rules.proofs.Undoing.{AllUndone, undo_true}

@@ -1,5 +1,5 @@
 -- The promises about every run, from what holds in every state of one.
-use Rattle.std.proofs.Common.{◌≡◌, ℕ, ◌≤◌, true, ◌⊎◌, List, drop, Some, Ok, Err, Result, sym, refl, ap, ◌∙◌, subst, inl, inr, arith}
+use Rattle.std.proofs.Common.{◌≡◌, ℕ, ◌≤◌, true, ◌⊎◌, drop, Some, Ok, Err, Result, sym, refl, ap, ◌∙◌, subst, inl, inr, arith}
 use Rattle.std.proofs.lemmas.Bool.{false≢true}
 use Rattle.format.specs.declared.slot.Slot.TheVariants.{Job}
 use Rattle.format.specs.declared.slot.JobEvent.TheVariants.{Commit}
@@ -11,18 +11,18 @@ use Rattle.server_rules.specs.Ledger.{Ledger, is_in, content_of}
 use Rattle.server_rules.specs.Numbers.{number_of}
 use Rattle.server_rules.specs.Plans.{Plan, Does}
 use Rattle.server_rules.specs.Promises.{BlankBegins, LooksRight, CommitsStand, KeptExactly, CompensatedOnce, LosersUndone, CheckpointsAgree, NeverRefused, AgainNothing, CutOrNot}
-use Rattle.server_rules.specs.Reading.{at, up_to}
+use Rattle.server_rules.specs.Reading.{at}
 use Rattle.server_rules.specs.Restart.{whole}
-use Rattle.server_rules.specs.Runs.{looks, commits, service_plan, in_service_plan, Reaches, Later}
+use Rattle.server_rules.specs.Runs.{looks, commits, in_service_plan, Reaches}
 use Rattle.server_rules.specs.Service.{in_service}
-use Rattle.server_rules.specs.State.{Devices, Memory, out, analysed, redone, serving, World, Working, is_serving, size, log_length}
+use Rattle.server_rules.specs.State.{Devices, Memory, out, analysed, redone, serving, World, Working, is_serving, size}
 use Rattle.server_rules.proofs.Asking.{in_serving}
 use Rattle.server_rules.proofs.Beginning.{begins}
 use Rattle.server_rules.proofs.Committing.{commit_slot}
 use Rattle.server_rules.proofs.Cuts.{at_up_to}
 use Rattle.server_rules.proofs.Cutting.{cut_same}
 use Rattle.server_rules.proofs.Finishing.{undo_comes}
-use Rattle.server_rules.proofs.Forever.{Forever, later_forever}
+use Rattle.server_rules.proofs.Forever.{later_forever}
 use Rattle.server_rules.proofs.Invariants.{Kept, Stage, Good, Settled}
 use Rattle.server_rules.proofs.JobLaws.{closed_empty}
 use Rattle.server_rules.proofs.Looking.{look_right}

@@ -20,7 +20,7 @@ use Rattle.server_rules.specs.Service.{copy_of}
 use Rattle.server_rules.specs.State.{Devices, Found, Working, redone, size, slots, log_length}
 use Rattle.server_rules.specs.Tables.{Dirty, find_page, least_from, least_start}
 use Rattle.server_rules.proofs.Legal.{count, image, whole_page, Legal, Recorded, Older, same}
-use Rattle.server_rules.proofs.Invariants.{start_of, Positive, before, Covers, stored, stored_lrcs, Durable, Analysed, First, Redone}
+use Rattle.server_rules.proofs.Invariants.{start_of, Positive, Covers, stored, stored_lrcs, Durable, Analysed, First, Redone}
 use Rattle.server_rules.proofs.Membership.{In, here, there}
 use Rattle.server_rules.proofs.Cuts.{legal_older}
 use Rattle.server_rules.proofs.Analysis.{older_length, before_older, older_tail}

@@ -1,16 +1,14 @@
 -- What analysis and redo come to in a good state: they are accepted, and the next stage is good again.
-use Rattle.std.proofs.Common.{◌≡◌, ℕ, suc, ◌≤◌, Bool, true, false, ◌⊎◌, List, [], length, Some, None, Ok, Err, Result, sym, refl, ap, ◌∙◌, subst, inl, inr, ⊎_elim, arith}
+use Rattle.std.proofs.Common.{◌≡◌, ℕ, ◌≤◌, [], length, Ok, Err, Result, sym, refl, ◌∙◌, subst, arith}
 use Rattle.std.proofs.lemmas.Bool.{false≢true}
-use Rattle.format.specs.declared.slot.Slot.TheVariants.{Checkpoint}
-use Rattle.format.specs.declared.slot.CheckpointPart.TheVariants.{Complete}
-use Rattle.format.specs.Changes.{Meaning, Lawful}
+use Rattle.format.specs.Changes.{Meaning}
 use Rattle.server_rules.specs.declared.refusal.Refusal.{Refusal}
 use Rattle.server_rules.specs.declared.refusal.Refusal.TheVariants.{NotTheNextPass}
-use Rattle.server_rules.specs.Ledger.{Ledger, settled}
-use Rattle.server_rules.specs.Plans.{Op, Plan, powers_on, Performed, done, Does, refused, granted, began, powered_on}
-use Rattle.server_rules.specs.Reading.{at, last_end}
+use Rattle.server_rules.specs.Ledger.{Ledger}
+use Rattle.server_rules.specs.Plans.{Plan, powers_on, Performed, done, Does, refused, granted, began, powered_on}
+use Rattle.server_rules.specs.Reading.{last_end}
 use Rattle.server_rules.specs.Restart.{whole, found_in, analysed_plan, analysis_plan, redo_plan, redone_plan, replayed, Replay, stored_pages}
-use Rattle.server_rules.specs.State.{Devices, Found, Working, Memory, out, analysed, redone, serving, World, size, slots, log_length}
+use Rattle.server_rules.specs.State.{Devices, Found, Memory, out, analysed, redone, serving, World, slots, log_length}
 use Rattle.server_rules.specs.Tables.{least_start}
 use Rattle.server_rules.proofs.Analysis.{AnalysisTrue, analysis_done, last_ends, last_inside}
 use Rattle.server_rules.proofs.Asking.{asked, answered, insisted, performing, readied}

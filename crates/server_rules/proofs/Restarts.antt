@@ -1,5 +1,5 @@
 -- The three passes in a row from a good state, and why it does not matter which true checkpoint they go by.
-use Rattle.std.proofs.Common.{◌≡◌, ℕ, suc, ◌<◌, ◌≤◌, Bool, true, false, ◌⊎◌, List, [], ◌∷◌, ◌++◌, map, length, Some, None, Ok, Err, Option, Result, sym, refl, ap, ◌∙◌, subst, ap₂, inl, inr, ⊎_elim, arith}
+use Rattle.std.proofs.Common.{◌≡◌, ℕ, ◌≤◌, List, [], ◌∷◌, ◌++◌, map, length, Some, Ok, sym, refl, ap, ◌∙◌, subst, ap₂, inl, inr, ⊎_elim, arith}
 use Rattle.std.proofs.lemmas.List.{ext_get_or}
 use Rattle.std.proofs.lemmas.Bool.{cases_lt}
 use Rattle.format.specs.declared.page.Page.{Page}
@@ -10,13 +10,12 @@ use Rattle.format.specs.Changes.{Meaning, Lawful}
 use Rattle.format.specs.Pages.{blank_page}
 use Rattle.recovery_log.specs.Log.{Log}
 use Rattle.device.specs.PageStores.{PageModel}
-use Rattle.server_rules.specs.declared.refusal.Refusal.{Refusal}
 use Rattle.server_rules.specs.Ledger.{Ledger, settled}
 use Rattle.server_rules.specs.Plans.{Does, powered_on}
-use Rattle.server_rules.specs.Promises.{Restarted, Outcome, outcome_of, outcome_by, restart_by, Agrees, Unchanged}
-use Rattle.server_rules.specs.Reading.{at, then, last_end}
-use Rattle.server_rules.specs.Restart.{whole, found_in, replayed, Replay, stored_pages, undone, redo_plan, undo_plan}
-use Rattle.server_rules.specs.State.{Devices, Found, Working, Memory, out, analysed, redone, serving, World, working, size, slots, log_length}
+use Rattle.server_rules.specs.Promises.{Restarted, outcome_of, outcome_by, restart_by, Agrees, Unchanged}
+use Rattle.server_rules.specs.Reading.{at}
+use Rattle.server_rules.specs.Restart.{whole, undone, redo_plan, undo_plan}
+use Rattle.server_rules.specs.State.{Devices, Found, Working, Memory, analysed, redone, World, working}
 use Rattle.server_rules.specs.Tables.{Jobs}
 use Rattle.server_rules.proofs.Analysis.{EndsAt, AnalysisTrue, analysis_done}
 use Rattle.server_rules.proofs.Cuts.{up_to_all}
@@ -25,7 +24,7 @@ use Rattle.server_rules.proofs.Finishing.{Undoes, undo_next, undo_comes}
 use Rattle.server_rules.proofs.Legal.{whole_page, open_jobs}
 use Rattle.server_rules.proofs.Invariants.{Durable, Kept, Analysed, Redone, Stage, Good}
 use Rattle.server_rules.proofs.Powering.{powered_on_power, powered_on_forced, kept_powered_on, settles}
-use Rattle.server_rules.proofs.Redo.{ReplayedTrue, redo_replays, redone_with, redo_done}
+use Rattle.server_rules.proofs.Redo.{redo_replays, redone_with, redo_done}
 use Rattle.server_rules.proofs.Restarting.{analysis_comes, redo_next}
 use Rattle.server_rules.proofs.Safety.{onto}
 use Rattle.server_rules.proofs.Undoing.{undo_true, undo_idle}

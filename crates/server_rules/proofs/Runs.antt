@@ -1,14 +1,13 @@
 -- Every state of a run is good.
-use Rattle.std.proofs.Common.{◌≡◌, ℕ, Bool, true, false, eqb, Ok, Err, Result, sym, refl, subst, subst₂}
+use Rattle.std.proofs.Common.{◌≡◌, ℕ, Result, sym, refl, subst, subst₂}
 use Rattle.format.specs.Changes.{Meaning, Lawful}
 use Rattle.server_rules.specs.declared.refusal.Refusal.{Refusal}
 use Rattle.server_rules.specs.declared.refusal.Refusal.TheVariants.{NotInService}
 use Rattle.server_rules.specs.Ledger.{Ledger}
-use Rattle.server_rules.specs.Numbers.{number_of}
-use Rattle.server_rules.specs.Plans.{Does, powered_on}
+use Rattle.server_rules.specs.Plans.{Does}
 use Rattle.server_rules.specs.Restart.{analysis_plan, redo_plan, undo_plan}
 use Rattle.server_rules.specs.Runs.{Call, analysis, redo, undo, service, ServiceCall, opens, fetches, records, ships, writes_out, commits, aborts, looks, checkpoints, Answers, Answer, in_service_plan, plan_of, denied, told_service, told_analysis, told, Reaches, made, called, remade}
-use Rattle.server_rules.specs.State.{Devices, Memory, out, analysed, redone, serving, World, Working}
+use Rattle.server_rules.specs.State.{Devices, Memory, serving, World, Working}
 use Rattle.server_rules.proofs.Aborting.{abort_good}
 use Rattle.server_rules.proofs.Asking.{in_serving}
 use Rattle.server_rules.proofs.Checkpointing.{checkpoint_good}

@@ -1,5 +1,5 @@
 -- Worked runs, computed by the definitions. Assumes nothing.
-use Rattle.std.specs.Prelude.{◌≡◌, ℕ, ◌-◌, ◌≤◌, Bool, true, false, List, [], ◌∷◌, ◌++◌, map, length, drop, replicate, Some, None, Ok, Err, Option, Result, slice_index, slice_index_or}
+use Rattle.std.specs.Prelude.{◌≡◌, ℕ, ◌-◌, ◌≤◌, true, List, [], ◌∷◌, ◌++◌, length, drop, replicate, Some, None, Ok, Err, Option, Result, slice_index, slice_index_or}
 use Rattle.format.specs.declared.page.Page.{Page}
 use Rattle.changes.specs.declared.patch.Patch.{Patch}
 use Rattle.changes.specs.declared.addition.Addition.{Addition}
@@ -14,7 +14,7 @@ use Rattle.server_rules.specs.Numbers.{number_of, place_of}
 use Rattle.server_rules.specs.Plans.{Does}
 use Rattle.server_rules.specs.Runner.{Failure, power_kept, more, run, Ran}
 use Rattle.server_rules.specs.Runs.{Call, analysis, redo, undo, service, ServiceCall, opens, fetches, records, ships, writes_out, commits, aborts, looks, checkpoints, Answer, Answers, plan_of, told, blank, Reaches}
-use Rattle.server_rules.specs.State.{Devices, Memory, out, analysed, redone, serving, World}
+use Rattle.server_rules.specs.State.{Memory, out, analysed, redone, serving, World}
 
 -- A call with what failure has for it, and what comes of it
 

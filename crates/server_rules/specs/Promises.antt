@@ -1,5 +1,5 @@
 -- What the server promises of every run: each a law over runs, for every kind of change given by its meaning. Assumes nothing.
-use Rattle.std.specs.Prelude.{◌≡◌, ℕ, ◌≤◌, Bool, true, false, ◌⊎◌, List, [], ◌∷◌, ◌++◌, map, drop, Some, None, Ok, Err, Option, Result, ◌==◌, ◌≢◌}
+use Rattle.std.specs.Prelude.{◌≡◌, ℕ, ◌≤◌, Bool, true, false, ◌⊎◌, List, ◌++◌, map, drop, Some, None, Ok, Err, Option, Result, ◌==◌, ◌≢◌}
 use Rattle.format.specs.declared.page.Page.{Page}
 use Rattle.format.specs.declared.slot.Slot.{Slot}
 use Rattle.format.specs.declared.slot.Slot.TheVariants.{Job, Checkpoint}

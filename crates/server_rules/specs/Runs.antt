@@ -1,5 +1,5 @@
 -- Runs: what is reached from a server just made over blank devices, by any calls with any outcomes and by making a server again. Assumes nothing.
-use Rattle.std.specs.Prelude.{◌≡◌, ℕ, ◌≤◌, Bool, true, false, cond, List, [], replicate, Ok, Err, Result, ◌==◌}
+use Rattle.std.specs.Prelude.{ℕ, ◌≤◌, Bool, cond, List, [], replicate, Ok, Err, Result, ◌==◌}
 use Rattle.format.specs.Changes.{Meaning}
 use Rattle.server_rules.specs.declared.refusal.Refusal.{Refusal}
 use Rattle.server_rules.specs.Numbers.{number_of}

@@ -1,5 +1,5 @@
 -- The server's tables: open jobs with what they hold, and dirty pages. Assumes nothing.
-use Rattle.std.specs.Prelude.{ℕ, suc, ◌+◌, ◌*◌, min, Bool, true, false, cond, ◌&&◌, ◌||◌, List, [], ◌∷◌, ◌++◌, map, length, replicate, is_some, Some, None, Option, ◌==◌, nat_lt, slice_index_or, slice_set}
+use Rattle.std.specs.Prelude.{ℕ, suc, ◌+◌, min, Bool, true, false, cond, ◌&&◌, ◌||◌, List, [], ◌∷◌, ◌++◌, length, replicate, is_some, Some, None, Option, ◌==◌, nat_lt, slice_index_or, slice_set}
 use Rattle.std.specs.Option.{unwrap_or, option_map}
 use Rattle.server_rules.specs.declared.table.JobEntry.{JobEntry}
 use Rattle.server_rules.specs.declared.table.DirtyPage.{DirtyPage}

@@ -1,5 +1,5 @@
 -- A loop that changes the entries of a list one after the other.
-use Rattle.std.proofs.Common.{◌≡◌, ℕ, suc, ◌+◌, ◌<◌, ◌≤◌, List, [], ◌∷◌, ◌++◌, length, get_or, take, drop, set, sym, refl, ap, ◌∙◌, arith, le-ltb, lt-ltb, eq-eqb, ne_eqb}
+use Rattle.std.proofs.Common.{◌≡◌, ℕ, ◌+◌, ◌<◌, ◌≤◌, List, [], ◌∷◌, ◌++◌, length, get_or, take, drop, set, sym, refl, ap, ◌∙◌, arith, le-ltb, lt-ltb, eq-eqb, ne_eqb}
 use Rattle.std.proofs.lemmas.List.{append_assoc, append-nil, at_drop_more, take_more, take_more_set, take_all, take_at, drop_at, drop_more, length-take-le, drop_all, drop-set-lt, get_or_read}
 use Rattle.server_rules.specs.declared.table.JobEntry.{JobEntry}
 use Rattle.tables.specs.Entry.{no_entry}

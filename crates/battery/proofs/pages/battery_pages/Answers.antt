@@ -1,4 +1,4 @@
-use Rattle.std.proofs.Common.{◌≡◌, true, map, ap, ◌∙◌}
+use Rattle.std.proofs.Common.{true, map, ap, ◌∙◌}
 use Rattle.device.specs.Memory.{as_bytes}
 use Rattle.device.specs.PageStores.{PageModel}
 use Rattle.battery.specs.BatteryStores.{pages_model}

@@ -15,4 +15,4 @@ invariant_of-self c =
     each_pushed (λ (r : List ℕ). length r ≡ 60) [] (vec_items s.slots) _ _ _ _ long s.sizes c.told-bytes put.items put.len in
     let small : (i k : ℕ) → i < vec_len v → get_or (get_or (vec_items v) i []) k 0 < 256 =
     λ i k. each_pushed (λ (r : List ℕ). get_or r k 0 < 256) [] (vec_items s.slots) _ _ _ _ long (λ j h. s.small j k h) (c.fits-bytes k) put.items put.len i in
-    record { numbers = s.numbers; reserved = reserved; room = room; held = held; sizes = sizes; small = small; }
+    record { numbers = s.numbers; reserved = reserved; room = room; held = held; sizes = sizes; small = small }

@@ -1,4 +1,4 @@
-use Rattle.std.proofs.Common.{◌≡◌, ℕ, ◌≤◌, false, List, length, vec_items, sym, ap, arith}
+use Rattle.std.proofs.Common.{ℕ, ◌≤◌, List, length, vec_items, sym, ap, arith}
 use Rattle.std.proofs.lemmas.List.{set_past}
 use Rattle.std.proofs.lemmas.Bool.{le-ltb}
 use Rattle.device.specs.PageStores.{PageModel}

@@ -1,4 +1,4 @@
-use Rattle.std.proofs.Common.{◌≡◌, ◌<◌, refl, arith}
+use Rattle.std.proofs.Common.{◌<◌, refl, arith}
 use Rattle.battery.specs.Batteries.{held, in_use}
 use Rattle.device.specs.PageStores.{PageWritten}
 use Rattle.battery.specs.BatteryStores.{most_pages, BatteryWrote}

@@ -1,4 +1,4 @@
-use Rattle.std.proofs.Common.{Ok, sym, refl, ap, ◌∙◌}
+use Rattle.std.proofs.Common.{Ok, sym, ap, ◌∙◌}
 use Rattle.device.specs.LogStores.{LengthRead}
 use Rattle.battery.specs.Batteries.{held}
 use Rattle.battery.specs.BatteryStores.{most_slots}

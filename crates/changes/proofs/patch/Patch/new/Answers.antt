@@ -10,7 +10,7 @@ invariant_of-result c =
     let some = not_empty c.args.bytes.now c.if-is_empty.ensures in
     let is = padded_is c.args.bytes.now c.copy_from_slice.new.self c.copy_from_slice.ensures.after in
     let ok = padded_ok c.args.offset c.args.bytes.now some (omega arith) (omega arith) (λ k. omega (arith, c.type_inv.bytes k)) in
-    record { formed = ap (patch_ok c.args.offset (length c.args.bytes.now)) is ∙ ok; }
+    record { formed = ap (patch_ok c.args.offset (length c.args.bytes.now)) is ∙ ok }
 
 pub returns : goal.returns
 returns c =

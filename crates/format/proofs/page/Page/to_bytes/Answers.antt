@@ -1,4 +1,4 @@
-use Rattle.std.proofs.Common.{◌≡◌, ℕ, List, ◌++◌, ap, ◌∙◌, append-nil, arith}
+use Rattle.std.proofs.Common.{ℕ, List, ◌++◌, ap, append-nil, arith}
 use Rattle.format.specs.Bytes.{spelled}
 use Rattle.format.proofs.Paged.{page_pair}
 use Rattle.format.proofs.page.Page.to_bytes.Goals as goal

@@ -1,4 +1,4 @@
-use Rattle.std.proofs.Common.{◌≡◌, is_ok, sym, ap, ◌∙◌}
+use Rattle.std.proofs.Common.{is_ok, ap, ◌∙◌}
 use Rattle.format.proofs.Encoding.{reads_fit, answer_written}
 use Rattle.format.proofs.slot.Slot.read.Goals as goal
 

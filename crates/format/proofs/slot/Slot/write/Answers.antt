@@ -1,5 +1,4 @@
-use Rattle.std.proofs.Common.{◌≡◌, ℕ, List, get_or, sym, ap, ◌∙◌, subst}
-use Rattle.format.specs.declared.slot.fields.Fields.{Fields}
+use Rattle.std.proofs.Common.{ℕ, List, get_or, ap, ◌∙◌, subst}
 use Rattle.format.specs.Slots.{laid_out, only_used, Sized, read_slot}
 use Rattle.format.proofs.Encoding.{all_used, written_reads}
 use Rattle.format.proofs.Unused.{unused_byte}

@@ -1,4 +1,4 @@
-use Rattle.std.proofs.Common.{◌≡◌, sym, refl, ◌∙◌}
+use Rattle.std.proofs.Common.{sym, refl, ◌∙◌}
 use Rattle.format.proofs.Reading.{reads_as}
 use Rattle.format.proofs.slot.read.decode.Goals as goal
 

@@ -1,4 +1,3 @@
-use Rattle.std.proofs.Common.{rules}
 use Rattle.recovery_log.proofs.making.Draft.note_part.Goals as goal
 
 pub returns-in_ok-name_page-in-DirtyPage : goal.returns-in_ok-name_page-in-DirtyPage

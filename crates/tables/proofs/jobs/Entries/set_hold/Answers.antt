@@ -1,4 +1,4 @@
-use Rattle.std.proofs.Common.{◌++◌, take, drop, sym, refl, ap, ◌∙◌, arith}
+use Rattle.std.proofs.Common.{refl, ◌∙◌, arith}
 use Rattle.server_rules.specs.Tables.{with_hold}
 use Rattle.tables.specs.Entry.{its_hold, no_entry}
 use Rattle.tables.proofs.Changing.{one_more, all_changed}

@@ -1,4 +1,4 @@
-use Rattle.std.proofs.Common.{◌≡◌, true, false, sym, ◌∙◌, arith, rules}
+use Rattle.std.proofs.Common.{◌≡◌, true, rules}
 use Rattle.format.specs.Slots.{padding_zero}
 use Rattle.format.proofs.Numbers.{number_rest}
 use Rattle.format.proofs.Laid.{padding_bad, padding_good, change_behind}
