@@ -8,16 +8,16 @@ use Rattle.format.specs.declared.slot.JobEvent.TheVariants.{End}
 use Rattle.format.specs.Changes.{Meaning, Lawful}
 use Rattle.device.specs.PageStores.{PageModel}
 use Rattle.recovery_log.specs.Log.{Log, is_open, is_committed, Numbered, pending}
-use Rattle.server_rules.specs.declared.refusal.Refusal.{Refusal}
-use Rattle.server_rules.specs.Ledger.{Ledger, Entry}
+use Rattle.rules.specs.declared.refusal.Refusal.{Refusal}
+use Rattle.rules.specs.Ledger.{Ledger, Entry}
 use Rattle.server_rules.specs.Plans.{Op, Performed, Does}
-use Rattle.server_rules.specs.Playing.{played, of_page}
-use Rattle.server_rules.specs.Reading.{up_to}
+use Rattle.rules.specs.Playing.{played, of_page}
+use Rattle.rules.specs.Reading.{up_to}
 use Rattle.server_rules.specs.Restart.{whole}
 use Rattle.server_rules.specs.Runs.{aborts, told_service}
 use Rattle.server_rules.specs.Service.{copy_of, at_held, holds_of, Work, Stopped, appends, all_back, aborted, completed, abort_in, log_read}
 use Rattle.server_rules.specs.State.{Devices, serving, Working, World, size}
-use Rattle.server_rules.specs.Tables.{Jobs, next_of, without_job, held_by, is_held, holds_page}
+use Rattle.rules.specs.Tables.{Jobs, next_of, without_job, held_by, is_held, holds_page}
 use Rattle.server_rules.proofs.Appends.{Plain, grown_size, grown_stored, safe_appends, dids_appends}
 use Rattle.server_rules.proofs.Asking.{asked, performing}
 use Rattle.server_rules.proofs.Committing.{refine}

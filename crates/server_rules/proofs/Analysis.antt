@@ -11,12 +11,12 @@ use Rattle.format.specs.declared.slot.CheckpointPart.{CheckpointPart}
 use Rattle.format.specs.declared.slot.CheckpointPart.TheVariants.{Complete}
 use Rattle.format.specs.Changes.{Meaning}
 use Rattle.recovery_log.specs.Log.{Log, new_number, is_open, next_by}
-use Rattle.server_rules.specs.declared.table.DirtyPage.{DirtyPage}
-use Rattle.server_rules.specs.Playing.{or_else}
-use Rattle.server_rules.specs.Reading.{at, up_to, scan, last_end}
+use Rattle.rules.specs.declared.table.DirtyPage.{DirtyPage}
+use Rattle.rules.specs.Playing.{or_else}
+use Rattle.rules.specs.Reading.{at, up_to, scan, last_end}
 use Rattle.server_rules.specs.Restart.{Tables, tables, Start, analyse, analyse_event, start_at, found_in, whole}
 use Rattle.server_rules.specs.State.{Devices, Found, size, slots, log_length}
-use Rattle.server_rules.specs.Tables.{Dirty, is_job, with_next, find_page, with_dirty}
+use Rattle.rules.specs.Tables.{Dirty, is_job, with_next, find_page, with_dirty}
 use Rattle.server_rules.proofs.Legal.{count, open_jobs, jobs_by, Legal, Turns, Older, same, more}
 use Rattle.server_rules.proofs.Invariants.{start_of, Positive, before, Covers, Truth, stored_lrcs, Durable, Powered, Analysed}
 use Rattle.server_rules.proofs.Membership.{here, there}

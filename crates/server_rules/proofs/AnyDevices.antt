@@ -3,16 +3,16 @@ use Rattle.std.proofs.Common.{◌≡◌, ℕ, Bool, true, false, ◌⊎◌, List
 use Rattle.std.proofs.lemmas.Bool.{both_ways, false≢true}
 use Rattle.format.specs.Changes.{Meaning, Lawful}
 use Rattle.recovery_log.specs.Log.{Numbered, pending}
-use Rattle.server_rules.specs.declared.refusal.Refusal.{Refusal}
-use Rattle.server_rules.specs.declared.refusal.Refusal.TheVariants.{NotInService}
+use Rattle.rules.specs.declared.refusal.Refusal.{Refusal}
+use Rattle.rules.specs.declared.refusal.Refusal.TheVariants.{NotInService}
 use Rattle.server_rules.specs.AnyDevices.{Goes, made_over, called, remade, ReadsOn, InService, InOrder, AppendsFit, AnyDevices}
 use Rattle.server_rules.specs.Plans.{Does}
-use Rattle.server_rules.specs.Reading.{at}
+use Rattle.rules.specs.Reading.{at}
 use Rattle.server_rules.specs.Restart.{whole, analysis_plan, redo_plan, undo_plan}
 use Rattle.server_rules.specs.Runs.{ServiceCall, opens, fetches, records, ships, writes_out, commits, aborts, looks, checkpoints, Call, analysis, redo, undo, service, Answer, in_service_plan, service_plan, plan_of}
 use Rattle.server_rules.specs.Service.{log_read, change_of}
 use Rattle.server_rules.specs.State.{Devices, Working, Memory, out, analysed, redone, serving, World}
-use Rattle.server_rules.specs.Tables.{is_job, next_of}
+use Rattle.rules.specs.Tables.{is_job, next_of}
 use Rattle.server_rules.proofs.AnyDevicesAbort.{abort_job, change_is}
 use Rattle.server_rules.proofs.AnyDevicesCheckpoint.{take_checkpoint}
 use Rattle.server_rules.proofs.AnyDevicesPlans.{Base, kept, told, safe_fits}

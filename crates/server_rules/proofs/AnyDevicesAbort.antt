@@ -9,17 +9,17 @@ use Rattle.format.specs.declared.slot.Action.TheVariants.{Put}
 use Rattle.format.specs.declared.slot.JobEvent.TheVariants.{End}
 use Rattle.format.specs.Changes.{Meaning, Lawful}
 use Rattle.recovery_log.specs.Log.{Log, Numbered, rest, pending}
-use Rattle.server_rules.specs.declared.refusal.Refusal.{Refusal}
-use Rattle.server_rules.specs.declared.refusal.Refusal.TheVariants.{JobNotOpen}
-use Rattle.server_rules.specs.declared.table.JobEntry.{JobEntry}
+use Rattle.rules.specs.declared.refusal.Refusal.{Refusal}
+use Rattle.rules.specs.declared.refusal.Refusal.TheVariants.{JobNotOpen}
+use Rattle.rules.specs.declared.table.JobEntry.{JobEntry}
 use Rattle.server_rules.specs.AnyDevices.{OperationsFit}
 use Rattle.server_rules.specs.Plans.{append}
-use Rattle.server_rules.specs.Playing.{play, played, of_page}
-use Rattle.server_rules.specs.Reading.{at}
+use Rattle.rules.specs.Playing.{play, played, of_page}
+use Rattle.rules.specs.Reading.{at}
 use Rattle.server_rules.specs.Restart.{whole}
 use Rattle.server_rules.specs.Service.{copy_of, at_held, holds_of, Work, Stopped, change_of, compensation, appends, finished, taken_back, then_back, all_back, aborted, completed, abort_in, log_read}
 use Rattle.server_rules.specs.State.{Devices, Working, serving, size, slots}
-use Rattle.server_rules.specs.Tables.{Jobs, find_job, is_job, next_of, without_job, owed}
+use Rattle.rules.specs.Tables.{Jobs, find_job, is_job, next_of, without_job, owed}
 use Rattle.server_rules.proofs.AnyDevicesBack.{onto, pushed_appends, appends_fit, Underway, back_on, end_on}
 use Rattle.server_rules.proofs.AnyDevicesScans.{at_inside, of_more}
 use Rattle.server_rules.proofs.AnyDevicesPlans.{Base, Runs}

@@ -8,11 +8,11 @@ use Rattle.format.specs.declared.slot.CheckpointPart.{CheckpointPart}
 use Rattle.format.specs.declared.slot.CheckpointPart.TheVariants.{Begin, DirtyPage, OpenJob, Complete}
 use Rattle.format.specs.Changes.{Meaning, Lawful}
 use Rattle.recovery_log.specs.Log.{Log, new_number, next_by}
-use Rattle.server_rules.specs.Reading.{at, up_to, scan}
+use Rattle.rules.specs.Reading.{at, up_to, scan}
 use Rattle.server_rules.specs.Restart.{Tables, tables, gather, analyse, Start, from_begin, from_end, start_at, found_from, found_in}
 use Rattle.server_rules.specs.State.{Found}
 use Rattle.server_rules.specs.Service.{has_place}
-use Rattle.server_rules.specs.Tables.{Jobs, new_job, entered, is_job, with_next, without_job, find_page, with_dirty, least_start}
+use Rattle.rules.specs.Tables.{Jobs, new_job, entered, is_job, with_next, without_job, find_page, with_dirty, least_start}
 use Rattle.server_rules.proofs.AnyDevicesSlots.{Each, each_at, each_more, Fits, event_inside, dirty_inside, open_inside}
 use Rattle.server_rules.proofs.AnyDevicesStages.{All, Named, There, OfRecord, Starts}
 use Rattle.server_rules.proofs.Cuts.{length_up_to, at_up_to}

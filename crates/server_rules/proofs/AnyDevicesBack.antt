@@ -13,8 +13,8 @@ use Rattle.format.specs.Slots.{slot_bytes, read_slot}
 use Rattle.recovery_log.specs.Log.{Log, new_number}
 use Rattle.server_rules.specs.AnyDevices.{OperationsFit}
 use Rattle.server_rules.specs.Plans.{Op, append}
-use Rattle.server_rules.specs.Playing.{play}
-use Rattle.server_rules.specs.Reading.{at}
+use Rattle.rules.specs.Playing.{play}
+use Rattle.rules.specs.Reading.{at}
 use Rattle.server_rules.specs.Service.{copy_of, Work, lrc_after, puts, change_of, compensation, with_slot, appends, taken_back}
 use Rattle.server_rules.proofs.AnyDevicesScans.{at_inside}
 use Rattle.server_rules.proofs.AnyDevicesPlans.{pushed}

@@ -7,15 +7,15 @@ use Rattle.format.specs.Bytes.{number_at}
 use Rattle.format.specs.Changes.{Meaning, Lawful}
 use Rattle.format.specs.Slots.{slot_bytes, read_slot}
 use Rattle.recovery_log.specs.Log.{Log, new_number}
-use Rattle.server_rules.specs.declared.refusal.Refusal.TheVariants.{LogFull}
-use Rattle.server_rules.specs.declared.table.JobEntry.{JobEntry}
+use Rattle.rules.specs.declared.refusal.Refusal.TheVariants.{LogFull}
+use Rattle.rules.specs.declared.table.JobEntry.{JobEntry}
 use Rattle.server_rules.specs.AnyDevices.{OperationsFit}
 use Rattle.server_rules.specs.Plans.{append, force}
-use Rattle.server_rules.specs.Playing.{or_else, first_lacked}
+use Rattle.rules.specs.Playing.{or_else, first_lacked}
 use Rattle.server_rules.specs.Restart.{whole}
 use Rattle.server_rules.specs.Service.{log_read, has_room, page_entry, page_entries, job_entries, checkpoint_slots, checkpoint_in}
 use Rattle.server_rules.specs.State.{Devices, Working, serving, size, log_length, next_slot}
-use Rattle.server_rules.specs.Tables.{Jobs, owed}
+use Rattle.rules.specs.Tables.{Jobs, owed}
 use Rattle.server_rules.proofs.AnyDevicesPlans.{Base, pushed, Runs}
 use Rattle.server_rules.proofs.AnyDevicesService.{Calm, ask, Serves, free_room, read_length, few, runs}
 use Rattle.server_rules.proofs.AnyDevicesSlots.{Each, begin_reads, dirty_reads, job_reads, complete_reads}

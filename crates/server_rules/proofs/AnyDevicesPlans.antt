@@ -12,11 +12,11 @@ use Rattle.device.specs.declared.log_store.LogFault.{LogFault}
 use Rattle.device.specs.PageStores.{PageModel, PageWritten}
 use Rattle.device.specs.LogStores.{LogModel, SlotAppended, LogForced}
 use Rattle.recovery_log.specs.Log.{Log}
-use Rattle.server_rules.specs.declared.refusal.Refusal.{Refusal}
+use Rattle.rules.specs.declared.refusal.Refusal.{Refusal}
 use Rattle.server_rules.specs.AnyDevices.{OperationsFit, PlanFits, Quiet}
-use Rattle.server_rules.specs.Numbers.{number_of}
+use Rattle.rules.specs.Numbers.{number_of}
 use Rattle.server_rules.specs.Plans.{Op, append, force, write, Plan, asks, insists, powers_on, performs, refusal_of_page, refusal_of_log, with_pages, with_log, powered_on, Did, Failed, Performed, done, next, Does, refused, granted, stopped, passed, began, performed}
-use Rattle.server_rules.specs.Reading.{known}
+use Rattle.rules.specs.Reading.{known}
 use Rattle.server_rules.specs.State.{Devices, Memory, out, World, size, slots, log_length}
 use Rattle.server_rules.proofs.Decoded.{known_append, known_length}
 

@@ -7,14 +7,14 @@ use Rattle.format.specs.declared.slot.Slot.TheVariants.{Record, Job, Checkpoint}
 use Rattle.format.specs.declared.slot.PageRecord.{PageRecord}
 use Rattle.format.specs.Changes.{Meaning, Lawful}
 use Rattle.recovery_log.specs.Log.{Log, new_number}
-use Rattle.server_rules.specs.declared.refusal.Refusal.{Refusal}
+use Rattle.rules.specs.declared.refusal.Refusal.{Refusal}
 use Rattle.server_rules.specs.Plans.{Plan, powered_on}
-use Rattle.server_rules.specs.Playing.{acted, play}
-use Rattle.server_rules.specs.Reading.{scan, last_end}
+use Rattle.rules.specs.Playing.{acted, play}
+use Rattle.rules.specs.Reading.{scan, last_end}
 use Rattle.server_rules.specs.Restart.{found_in, analysed_plan, analysis_plan, whole, Replay, is_due, none_ahead, replay, redone_plan, replayed, stored_pages, redo_plan}
 use Rattle.server_rules.specs.Service.{copy_of}
 use Rattle.server_rules.specs.State.{Devices, Found, Working, Memory, out, analysed, redone, serving, World, size, slots, log_length, sizes_legal}
-use Rattle.server_rules.specs.Tables.{Dirty, least_start}
+use Rattle.rules.specs.Tables.{Dirty, least_start}
 use Rattle.server_rules.proofs.AnyDevicesAnalysis.{finds}
 use Rattle.server_rules.proofs.AnyDevicesScans.{scanned, each_all, each_and, of_each, of_more, ok_cond, ok_same, clash}
 use Rattle.server_rules.proofs.AnyDevicesPlans.{Powered, Base, After, Safe}

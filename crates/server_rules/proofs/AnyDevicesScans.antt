@@ -5,11 +5,11 @@ use Rattle.format.specs.declared.slot.Slot.{Slot}
 use Rattle.format.specs.declared.slot.Slot.TheVariants.{Record, Job, Checkpoint}
 use Rattle.format.specs.declared.slot.PageRecord.{PageRecord}
 use Rattle.recovery_log.specs.Log.{Log, new_number}
-use Rattle.server_rules.specs.declared.refusal.Refusal.{Refusal}
-use Rattle.server_rules.specs.declared.table.JobEntry.{JobEntry}
-use Rattle.server_rules.specs.declared.table.DirtyPage.{DirtyPage as DirtyEntry}
-use Rattle.server_rules.specs.Reading.{at, up_to, then, scan}
-use Rattle.server_rules.specs.Tables.{Jobs, Dirty, entered, with_next, without_job, find_page, with_dirty, least_from, least_start}
+use Rattle.rules.specs.declared.refusal.Refusal.{Refusal}
+use Rattle.rules.specs.declared.table.JobEntry.{JobEntry}
+use Rattle.rules.specs.declared.table.DirtyPage.{DirtyPage as DirtyEntry}
+use Rattle.rules.specs.Reading.{at, up_to, then, scan}
+use Rattle.rules.specs.Tables.{Jobs, Dirty, entered, with_next, without_job, find_page, with_dirty, least_from, least_start}
 use Rattle.server_rules.proofs.AnyDevicesSlots.{Each}
 use Rattle.server_rules.proofs.AnyDevicesStages.{All, Named, OfRecord}
 use Rattle.server_rules.proofs.Decoded.{at_more, at_zero, at_above}

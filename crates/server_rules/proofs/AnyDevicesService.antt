@@ -9,15 +9,15 @@ use Rattle.format.specs.Bytes.{number_at}
 use Rattle.format.specs.Changes.{Meaning, Lawful}
 use Rattle.format.specs.Pages.{page_of}
 use Rattle.recovery_log.specs.Log.{Log, new_number, newest_lrc, pending}
-use Rattle.server_rules.specs.declared.refusal.Refusal.{Refusal}
-use Rattle.server_rules.specs.declared.refusal.Refusal.TheVariants.{NoJobPlace, JobNotOpen, PageOutside, BufferSize, NotHeld, HeldAlready, NotAChange, LrcOutOfOrder, ImageDiffers, CopyIncomplete, LogFull}
+use Rattle.rules.specs.declared.refusal.Refusal.{Refusal}
+use Rattle.rules.specs.declared.refusal.Refusal.TheVariants.{NoJobPlace, JobNotOpen, PageOutside, BufferSize, NotHeld, HeldAlready, NotAChange, LrcOutOfOrder, ImageDiffers, CopyIncomplete, LogFull}
 use Rattle.server_rules.specs.AnyDevices.{OperationsFit}
-use Rattle.server_rules.specs.Numbers.{number_of}
+use Rattle.rules.specs.Numbers.{number_of}
 use Rattle.server_rules.specs.Plans.{Op, append, force, write, Plan}
 use Rattle.server_rules.specs.Restart.{whole}
 use Rattle.server_rules.specs.Service.{copy_of, log_read, last_of, follows_last, up_to_last, has_room, in_store, open_in, fetch_in, change_for, recorded, record_in, ship_in, write_out_in, look_in, commit_in}
 use Rattle.server_rules.specs.State.{Devices, Working, serving, World, size, slots, log_length, next_slot, free}
-use Rattle.server_rules.specs.Tables.{Jobs, new_job, entered, is_job, with_next, without_job, with_hold, owed}
+use Rattle.rules.specs.Tables.{Jobs, new_job, entered, is_job, with_next, without_job, with_hold, owed}
 use Rattle.server_rules.proofs.AnyDevicesPlans.{Base, After, pushed, Runs, Safe}
 use Rattle.server_rules.proofs.AnyDevicesRedo.{copy_set}
 use Rattle.server_rules.proofs.AnyDevicesSlots.{Each, known_fits, record_reads, open_reads, closed_reads}

@@ -17,7 +17,7 @@ use Rattle.format.specs.Slots.{fields_of, padding_zero, unused_zero, change_fits
 use Rattle.format.proofs.ByKind.{fields_of_slot}
 use Rattle.format.proofs.Encoding.{written_reads, reads, reads_fit}
 use Rattle.recovery_log.specs.Log.{Log, new_number, opens}
-use Rattle.server_rules.specs.Reading.{slot_at, read_on, known, at}
+use Rattle.rules.specs.Reading.{slot_at, read_on, known, at}
 
 -- What holds of each slot of a log, by its number
 

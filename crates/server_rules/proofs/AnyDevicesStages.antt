@@ -8,13 +8,13 @@ use Rattle.format.specs.declared.slot.PageRecord.{PageRecord}
 use Rattle.format.specs.declared.slot.Action.TheVariants.{Put}
 use Rattle.format.specs.Changes.{Meaning}
 use Rattle.recovery_log.specs.Log.{Log, Numbered, pending}
-use Rattle.server_rules.specs.declared.table.JobEntry.{JobEntry}
+use Rattle.rules.specs.declared.table.JobEntry.{JobEntry}
 use Rattle.server_rules.specs.Plans.{Op, append, force, write}
-use Rattle.server_rules.specs.Reading.{at}
+use Rattle.rules.specs.Reading.{at}
 use Rattle.server_rules.specs.Restart.{whole}
 use Rattle.server_rules.specs.Service.{copy_of, log_read}
 use Rattle.server_rules.specs.State.{Devices, Found, Working, Memory, out, analysed, redone, serving, size, log_length, sizes_legal}
-use Rattle.server_rules.specs.Tables.{Jobs, find_job, least_start, owed}
+use Rattle.rules.specs.Tables.{Jobs, find_job, least_start, owed}
 use Rattle.server_rules.proofs.AnyDevicesPlans.{Powered, After, pushed}
 use Rattle.server_rules.proofs.AnyDevicesSlots.{Each}
 use Rattle.server_rules.proofs.Decoded.{whole_length}

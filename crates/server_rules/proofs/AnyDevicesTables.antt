@@ -9,9 +9,9 @@ use Rattle.format.specs.declared.slot.PageRecord.{PageRecord}
 use Rattle.format.specs.declared.slot.Action.TheVariants.{Put}
 use Rattle.format.specs.Changes.{Meaning, Lawful}
 use Rattle.recovery_log.specs.Log.{Log, new_number, Numbered, pending}
-use Rattle.server_rules.specs.declared.table.JobEntry.{JobEntry}
-use Rattle.server_rules.specs.Reading.{at}
-use Rattle.server_rules.specs.Tables.{Jobs, new_job, entered, find_job, is_job, next_of, with_next, without_job, with_hold, owed}
+use Rattle.rules.specs.declared.table.JobEntry.{JobEntry}
+use Rattle.rules.specs.Reading.{at}
+use Rattle.rules.specs.Tables.{Jobs, new_job, entered, find_job, is_job, next_of, with_next, without_job, with_hold, owed}
 use Rattle.server_rules.proofs.AnyDevicesScans.{at_inside}
 use Rattle.server_rules.proofs.AnyDevicesSlots.{Each, Fits, record_inside}
 use Rattle.server_rules.proofs.AnyDevicesStages.{Stack, Stacked, Table}

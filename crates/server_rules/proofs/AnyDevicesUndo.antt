@@ -4,16 +4,16 @@ use Rattle.std.proofs.lemmas.Bool.{ltb-true, false≢true}
 use Rattle.format.specs.declared.slot.PageRecord.{PageRecord}
 use Rattle.format.specs.Changes.{Meaning, Lawful}
 use Rattle.recovery_log.specs.Log.{Log}
-use Rattle.server_rules.specs.declared.refusal.Refusal.{Refusal}
-use Rattle.server_rules.specs.declared.refusal.Refusal.TheVariants.{LogFull}
-use Rattle.server_rules.specs.declared.table.JobEntry.{JobEntry}
+use Rattle.rules.specs.declared.refusal.Refusal.{Refusal}
+use Rattle.rules.specs.declared.refusal.Refusal.TheVariants.{LogFull}
+use Rattle.rules.specs.declared.table.JobEntry.{JobEntry}
 use Rattle.server_rules.specs.AnyDevices.{OperationsFit}
 use Rattle.server_rules.specs.Plans.{Op, force}
-use Rattle.server_rules.specs.Reading.{at}
+use Rattle.rules.specs.Reading.{at}
 use Rattle.server_rules.specs.Restart.{Undoing, Undone, latest_of, latest, whole, goes_on, gives_up, has_slot, ended, then_undo, end_job, end_idle, compensated, undo_change, undo_latest, undo_all, undone, undone_plan, undo_in, undo_plan}
 use Rattle.server_rules.specs.Service.{change_of, appends}
 use Rattle.server_rules.specs.State.{Devices, Working, Memory, out, analysed, redone, serving, size, slots, log_length}
-use Rattle.server_rules.specs.Tables.{Jobs}
+use Rattle.rules.specs.Tables.{Jobs}
 use Rattle.server_rules.proofs.AnyDevicesBack.{Changed, change_found, onto, pushed_appends, appends_fit, Underway, back_on, end_on}
 use Rattle.server_rules.proofs.AnyDevicesScans.{named_next, named_without}
 use Rattle.server_rules.proofs.AnyDevicesPlans.{Base, After}

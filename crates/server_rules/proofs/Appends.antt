@@ -9,7 +9,7 @@ use Rattle.format.specs.declared.slot.CheckpointPart.TheVariants.{Begin, DirtyPa
 use Rattle.format.specs.Changes.{Meaning, Lawful}
 use Rattle.device.specs.PageStores.{PageModel}
 use Rattle.recovery_log.specs.Log.{Log}
-use Rattle.server_rules.specs.Ledger.{Ledger}
+use Rattle.rules.specs.Ledger.{Ledger}
 use Rattle.server_rules.specs.Plans.{Op, append}
 use Rattle.server_rules.specs.Restart.{whole}
 use Rattle.server_rules.specs.Service.{appends}

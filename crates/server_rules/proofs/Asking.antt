@@ -2,9 +2,9 @@
 use Rattle.std.proofs.Common.{◌≡◌, Bool, true, List, Err, Result, sym, refl, ◌∙◌}
 use Rattle.std.proofs.lemmas.Bool.{false≢true}
 use Rattle.format.specs.Changes.{Meaning}
-use Rattle.server_rules.specs.declared.refusal.Refusal.{Refusal}
-use Rattle.server_rules.specs.declared.refusal.Refusal.TheVariants.{NotInService}
-use Rattle.server_rules.specs.Ledger.{Ledger}
+use Rattle.rules.specs.declared.refusal.Refusal.{Refusal}
+use Rattle.rules.specs.declared.refusal.Refusal.TheVariants.{NotInService}
+use Rattle.rules.specs.Ledger.{Ledger}
 use Rattle.server_rules.specs.Plans.{Op, Plan, asks, insists, performs, Performed, Does, refused, granted, stopped, passed, performed}
 use Rattle.server_rules.specs.Service.{ready, in_service}
 use Rattle.server_rules.specs.State.{Devices, Memory, out, analysed, redone, serving, World, Working, sizes_legal}

@@ -3,8 +3,8 @@ use Rattle.std.proofs.Common.{◌≡◌, ℕ, ◌≤◌, Bool, true, false, eqb,
 use Rattle.std.proofs.lemmas.Bool.{both_ways}
 use Rattle.format.specs.Changes.{Meaning, Lawful}
 use Rattle.format.specs.Pages.{blank_page}
-use Rattle.server_rules.specs.declared.refusal.Refusal.{Refusal}
-use Rattle.server_rules.specs.Ledger.{Ledger, empty, settled}
+use Rattle.rules.specs.declared.refusal.Refusal.{Refusal}
+use Rattle.rules.specs.Ledger.{Ledger, empty, settled}
 use Rattle.server_rules.specs.Plans.{Does, powered_on}
 use Rattle.server_rules.specs.Promises.{Begins, power_lost}
 use Rattle.server_rules.specs.Restart.{whole, Replay, redo_plan, undo_plan, analysis_plan}

@@ -10,18 +10,18 @@ use Rattle.format.specs.Bytes.{number_at}
 use Rattle.format.specs.Changes.{Meaning, Lawful}
 use Rattle.device.specs.PageStores.{PageModel}
 use Rattle.recovery_log.specs.Log.{Log, new_number, Numbered, pending}
-use Rattle.server_rules.specs.declared.refusal.Refusal.{Refusal}
-use Rattle.server_rules.specs.declared.table.JobEntry.{JobEntry}
-use Rattle.server_rules.specs.declared.table.DirtyPage as dirty
-use Rattle.server_rules.specs.Ledger.{Ledger}
+use Rattle.rules.specs.declared.refusal.Refusal.{Refusal}
+use Rattle.rules.specs.declared.table.JobEntry.{JobEntry}
+use Rattle.rules.specs.declared.table.DirtyPage as dirty
+use Rattle.rules.specs.Ledger.{Ledger}
 use Rattle.server_rules.specs.Plans.{Op, append, force, Performed, Does}
-use Rattle.server_rules.specs.Playing.{first_lacked, or_else}
-use Rattle.server_rules.specs.Reading.{at, up_to, scan, then}
+use Rattle.rules.specs.Playing.{first_lacked, or_else}
+use Rattle.rules.specs.Reading.{at, up_to, scan, then}
 use Rattle.server_rules.specs.Restart.{Tables, tables, gather, from_begin, from_end, start_at, whole}
 use Rattle.server_rules.specs.Runs.{checkpoints, told_service}
 use Rattle.server_rules.specs.Service.{appends, log_read, has_room, page_entry, page_entries, job_entries, checkpoint_slots, checkpoint_in}
 use Rattle.server_rules.specs.State.{Devices, Working, serving, World, size, log_length, next_slot}
-use Rattle.server_rules.specs.Tables.{Jobs, new_job, find_job, Dirty, find_page}
+use Rattle.rules.specs.Tables.{Jobs, new_job, find_job, Dirty, find_page}
 use Rattle.server_rules.proofs.Appends.{Plain, Honests, plain_honest, appended_in_order, onto_reverse, safe_honest, dids_honest}
 use Rattle.server_rules.proofs.Asking.{asked, performing}
 use Rattle.server_rules.proofs.Cuts.{up_to_all}

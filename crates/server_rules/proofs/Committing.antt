@@ -6,16 +6,16 @@ use Rattle.format.specs.declared.slot.Slot.TheVariants.{Job}
 use Rattle.format.specs.declared.slot.JobEvent.TheVariants.{Commit}
 use Rattle.format.specs.Changes.{Meaning, Lawful}
 use Rattle.recovery_log.specs.Log.{Log, new_number, is_open, is_committed, Numbered}
-use Rattle.server_rules.specs.declared.refusal.Refusal.{Refusal}
-use Rattle.server_rules.specs.Ledger.{Ledger, Entry, is_in, with_kept, with_doubt}
+use Rattle.rules.specs.declared.refusal.Refusal.{Refusal}
+use Rattle.rules.specs.Ledger.{Ledger, Entry, is_in, with_kept, with_doubt}
 use Rattle.server_rules.specs.Plans.{Op, append, force, performs, Does}
-use Rattle.server_rules.specs.Playing.{lacks}
-use Rattle.server_rules.specs.Reading.{at, up_to}
+use Rattle.rules.specs.Playing.{lacks}
+use Rattle.rules.specs.Reading.{at, up_to}
 use Rattle.server_rules.specs.Restart.{whole}
 use Rattle.server_rules.specs.Runs.{commits, told_service}
 use Rattle.server_rules.specs.Service.{copy_of, with_jobs, holds_of, log_read, held_complete, commit_in}
 use Rattle.server_rules.specs.State.{Devices, Memory, Working, serving, World, size, next_slot}
-use Rattle.server_rules.specs.Tables.{is_job, without_job, is_held}
+use Rattle.rules.specs.Tables.{is_job, without_job, is_held}
 use Rattle.server_rules.proofs.Asking.{asked, performing}
 use Rattle.server_rules.proofs.Cuts.{up_to_all}
 use Rattle.server_rules.proofs.Decoded.{whole_length}

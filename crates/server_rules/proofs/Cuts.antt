@@ -3,7 +3,7 @@ use Rattle.std.proofs.Common.{◌≡◌, ℕ, suc, ◌≤◌, Bool, true, false,
 use Rattle.std.proofs.lemmas.Bool.{leb-true, leb-false, le-leb, lt-leb, ne_eqb, or_right}
 use Rattle.format.specs.declared.slot.Slot.TheVariants.{Record, Job, Checkpoint}
 use Rattle.recovery_log.specs.Log.{Log, commits, is_committed}
-use Rattle.server_rules.specs.Reading.{at, up_to}
+use Rattle.rules.specs.Reading.{at, up_to}
 use Rattle.server_rules.proofs.Legal.{Legal, Exclusive, Older, same, more}
 
 module _ {C : Type 0} where

@@ -1,7 +1,7 @@
 -- A restart that was cut anywhere and then finished keeps the same jobs, and so reaches the same content, as one that was not.
 use Rattle.std.proofs.Common.{◌≡◌, ℕ, Bool, cond, ◌&&◌, eqb, List, [], ◌∷◌, ◌++◌, sym, refl, ap, ◌∙◌, subst, ap₂}
 use Rattle.format.specs.Changes.{Meaning, Lawful}
-use Rattle.server_rules.specs.Ledger.{Ledger, Entry, is_in, committed_of, settled, content_by, content_of}
+use Rattle.rules.specs.Ledger.{Ledger, Entry, is_in, committed_of, settled, content_by, content_of}
 use Rattle.server_rules.specs.Plans.{powered_on}
 use Rattle.server_rules.specs.Promises.{Restarted, Passes, none, remade, analyses, redoes, undoes, copy_in}
 use Rattle.server_rules.specs.Restart.{whole, undone}

@@ -6,7 +6,7 @@ use Rattle.format.specs.declared.slot.Action.{Action}
 use Rattle.format.specs.declared.slot.Action.TheVariants.{Put, TakeBack}
 use Rattle.format.specs.Changes.{Meaning, Lawful, Content}
 use Rattle.recovery_log.specs.Log.{Log, new_number, Numbered, rest, pending_by}
-use Rattle.server_rules.specs.Playing.{acted}
+use Rattle.rules.specs.Playing.{acted}
 use Rattle.server_rules.proofs.Legal.{pile, whole_page, Legal, Follows, Exclusive}
 use Rattle.server_rules.proofs.Images.{blank_content, whole_next, whole_other}
 use Rattle.server_rules.proofs.Piles.{pile_taken}

@@ -20,7 +20,7 @@ use Rattle.device.specs.declared.log_store.LogFault.{LogFault}
 use Rattle.device.specs.declared.log_store.LogFault.TheVariants.{PowerLost, Full}
 use Rattle.device.specs.LogStores.{LogModel, SlotAppended, LogForced, state}
 use Rattle.recovery_log.specs.Log.{Log, new_number}
-use Rattle.server_rules.specs.Reading.{slot_at, read_on, known, at, up_to, last_end, last_end_from}
+use Rattle.rules.specs.Reading.{slot_at, read_on, known, at, up_to, last_end, last_end_from}
 use Rattle.server_rules.specs.State.{Devices, size, log_length}
 use Rattle.server_rules.specs.Plans.{with_log, powered_on}
 use Rattle.server_rules.specs.Restart.{whole}

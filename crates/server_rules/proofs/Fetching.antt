@@ -2,13 +2,13 @@
 use Rattle.std.proofs.Common.{◌≡◌, ℕ, true, false, ◌⊎◌, List, Result, sym, ap, ◌∙◌, inl, inr}
 use Rattle.std.proofs.lemmas.Bool.{not-true}
 use Rattle.format.specs.Changes.{Meaning, Lawful}
-use Rattle.server_rules.specs.declared.refusal.Refusal.{Refusal}
-use Rattle.server_rules.specs.Ledger.{Ledger}
+use Rattle.rules.specs.declared.refusal.Refusal.{Refusal}
+use Rattle.rules.specs.Ledger.{Ledger}
 use Rattle.server_rules.specs.Plans.{Does}
 use Rattle.server_rules.specs.Runs.{fetches, told_service}
 use Rattle.server_rules.specs.Service.{with_jobs, fetch_in}
 use Rattle.server_rules.specs.State.{Devices, Working, serving, World}
-use Rattle.server_rules.specs.Tables.{with_hold, held_by, held_by_another}
+use Rattle.rules.specs.Tables.{with_hold, held_by, held_by_another}
 use Rattle.server_rules.proofs.Asking.{asked}
 use Rattle.server_rules.proofs.Invariants.{Kept, Serving, Stage, Good}
 use Rattle.server_rules.proofs.Serves.{nothing_done}

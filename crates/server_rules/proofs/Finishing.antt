@@ -9,15 +9,15 @@ use Rattle.format.specs.Changes.{Meaning, Lawful}
 use Rattle.format.specs.Pages.{page_of}
 use Rattle.device.specs.PageStores.{PageModel}
 use Rattle.recovery_log.specs.Log.{Log, is_open, is_committed, Numbered}
-use Rattle.server_rules.specs.declared.refusal.Refusal.{Refusal}
-use Rattle.server_rules.specs.declared.refusal.Refusal.TheVariants.{NotTheNextPass}
-use Rattle.server_rules.specs.Ledger.{Ledger}
-use Rattle.server_rules.specs.Numbers.{number_of}
+use Rattle.rules.specs.declared.refusal.Refusal.{Refusal}
+use Rattle.rules.specs.declared.refusal.Refusal.TheVariants.{NotTheNextPass}
+use Rattle.rules.specs.Ledger.{Ledger}
+use Rattle.rules.specs.Numbers.{number_of}
 use Rattle.server_rules.specs.Plans.{force, Performed, Does}
 use Rattle.server_rules.specs.Restart.{whole, undone, undone_plan, undo_plan}
 use Rattle.server_rules.specs.Service.{copy_of, appends}
 use Rattle.server_rules.specs.State.{Devices, Working, Memory, out, analysed, redone, serving, World, size, log_length}
-use Rattle.server_rules.specs.Tables.{Jobs}
+use Rattle.rules.specs.Tables.{Jobs}
 use Rattle.server_rules.proofs.Appends.{Plain, safe_appends, dids_appends}
 use Rattle.server_rules.proofs.Asking.{asked, answered, performing, readied}
 use Rattle.server_rules.proofs.Cuts.{older_up_to}

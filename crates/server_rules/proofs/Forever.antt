@@ -6,9 +6,9 @@ use Rattle.device.specs.declared.log_store.LogFault.{LogFault}
 use Rattle.device.specs.declared.page_store.PageFault.{PageFault}
 use Rattle.device.specs.LogStores.{LogModel, LogForced}
 use Rattle.device.specs.PageStores.{PageModel, PageWritten}
-use Rattle.server_rules.specs.declared.refusal.Refusal.{Refusal}
+use Rattle.rules.specs.declared.refusal.Refusal.{Refusal}
 use Rattle.server_rules.specs.Plans.{Op, Plan, Did, Failed, Performed, done, Does, refused, granted, stopped, passed, began, performed, powered_on, with_log, with_pages}
-use Rattle.server_rules.specs.Reading.{known, up_to}
+use Rattle.rules.specs.Reading.{known, up_to}
 use Rattle.server_rules.specs.Restart.{whole}
 use Rattle.server_rules.specs.Runs.{with_powers, Later, now, after, anew}
 use Rattle.server_rules.specs.State.{Devices, Memory, World, size, slots, log_length}

@@ -13,8 +13,8 @@ use Rattle.format.specs.declared.slot.CheckpointPart.{CheckpointPart}
 use Rattle.format.specs.Changes.{Meaning, Lawful, Content}
 use Rattle.format.specs.Pages.{blank_page}
 use Rattle.recovery_log.specs.Log.{Log, new_number}
-use Rattle.server_rules.specs.Reading.{up_to}
-use Rattle.server_rules.specs.Playing.{acted, play, played, of_page, up_to_lrc}
+use Rattle.rules.specs.Reading.{up_to}
+use Rattle.rules.specs.Playing.{acted, play, played, of_page, up_to_lrc}
 use Rattle.server_rules.proofs.Legal.{count, image, whole_page, after_record, Legal, Recorded, Older, same, more, masked}
 use Rattle.server_rules.proofs.PageCounts.{count_more, count_older, unread, unread_old, up_to_more}
 

@@ -8,14 +8,14 @@ use Rattle.format.specs.declared.slot.CheckpointPart.TheVariants.{Complete}
 use Rattle.format.specs.Changes.{Meaning}
 use Rattle.format.specs.Pages.{page_of}
 use Rattle.recovery_log.specs.Log.{Log, new_number, is_open, is_committed, Numbered, pending}
-use Rattle.server_rules.specs.declared.table.JobEntry.{JobEntry}
-use Rattle.server_rules.specs.declared.table.DirtyPage.{DirtyPage}
-use Rattle.server_rules.specs.Ledger.{Ledger, Entry, is_in}
-use Rattle.server_rules.specs.Reading.{at, up_to}
+use Rattle.rules.specs.declared.table.JobEntry.{JobEntry}
+use Rattle.rules.specs.declared.table.DirtyPage.{DirtyPage}
+use Rattle.rules.specs.Ledger.{Ledger, Entry, is_in}
+use Rattle.rules.specs.Reading.{at, up_to}
 use Rattle.server_rules.specs.Restart.{Start, start_at, whole}
 use Rattle.server_rules.specs.Service.{copy_of}
 use Rattle.server_rules.specs.State.{Devices, Found, Working, Memory, out, analysed, redone, serving, World, size, log_length, sizes_legal}
-use Rattle.server_rules.specs.Tables.{Jobs, Dirty, new_job, find_page, held_by, is_held}
+use Rattle.rules.specs.Tables.{Jobs, Dirty, new_job, find_page, held_by, is_held}
 use Rattle.server_rules.proofs.Legal.{count, pile, image, whole_page, open_jobs, Legal, Exclusive}
 use Rattle.server_rules.proofs.Membership.{In}
 

@@ -10,10 +10,10 @@ use Rattle.format.specs.declared.slot.Action.TheVariants.{Put, TakeBack}
 use Rattle.format.specs.declared.slot.JobEvent.{JobEvent}
 use Rattle.format.specs.declared.slot.JobEvent.TheVariants.{Open, Commit, End}
 use Rattle.recovery_log.specs.Log.{Log, new_number, opens, commits, is_open, stands, is_committed, next, next_by, Numbered, pending, pending_by}
-use Rattle.server_rules.specs.declared.table.JobEntry.{JobEntry}
-use Rattle.server_rules.specs.Reading.{at}
+use Rattle.rules.specs.declared.table.JobEntry.{JobEntry}
+use Rattle.rules.specs.Reading.{at}
 use Rattle.server_rules.specs.Service.{change_of}
-use Rattle.server_rules.specs.Tables.{new_job, entered, find_job, is_job, next_of}
+use Rattle.rules.specs.Tables.{new_job, entered, find_job, is_job, next_of}
 use Rattle.server_rules.proofs.Legal.{Legal, open_jobs, Turns, Follows, Recorded}
 use Rattle.server_rules.proofs.JobTables.{at_next, find_with_next, find_without_job, find_entered, length_with_next, length_without_job, length_entered, Ascending, ascending_with_next, ascending_without_job, ascending_entered, find_in, entered_above}
 use Rattle.server_rules.proofs.Membership.{In, here, there}

@@ -14,8 +14,8 @@ use Rattle.format.specs.declared.slot.CheckpointPart.TheVariants.{Begin, DirtyPa
 use Rattle.format.specs.Changes.{Meaning}
 use Rattle.format.specs.Pages.{blank_page}
 use Rattle.recovery_log.specs.Log.{Log, new_number, is_open, next, next_by, Numbered, pending, pending_by}
-use Rattle.server_rules.specs.Playing.{acted, up_to_lrc}
-use Rattle.server_rules.specs.Tables.{Jobs, new_job, entered, with_next, without_job, owed}
+use Rattle.rules.specs.Playing.{acted, up_to_lrc}
+use Rattle.rules.specs.Tables.{Jobs, new_job, entered, with_next, without_job, owed}
 
 -- the table of open jobs after an event
 abbrev pub jobs_by : JobEvent → ℕ → Jobs → Jobs

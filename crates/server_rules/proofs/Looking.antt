@@ -5,14 +5,14 @@ use Rattle.format.specs.declared.page.Page.{Page}
 use Rattle.format.specs.Changes.{Meaning, Lawful}
 use Rattle.format.specs.Pages.{page_bytes}
 use Rattle.recovery_log.specs.Log.{is_committed, Numbered}
-use Rattle.server_rules.specs.declared.refusal.Refusal.{Refusal}
-use Rattle.server_rules.specs.Ledger.{Ledger, Entry, is_in, content_by, content_of}
+use Rattle.rules.specs.declared.refusal.Refusal.{Refusal}
+use Rattle.rules.specs.Ledger.{Ledger, Entry, is_in, content_by, content_of}
 use Rattle.server_rules.specs.Plans.{Does}
 use Rattle.server_rules.specs.Restart.{whole}
 use Rattle.server_rules.specs.Runs.{looks, told_service}
 use Rattle.server_rules.specs.Service.{copy_of, look_in}
 use Rattle.server_rules.specs.State.{Devices, Working, serving, World, size}
-use Rattle.server_rules.specs.Tables.{held_by, is_held}
+use Rattle.rules.specs.Tables.{held_by, is_held}
 use Rattle.server_rules.proofs.Asking.{asked}
 use Rattle.server_rules.proofs.DataLaw.{poured, data_law}
 use Rattle.server_rules.proofs.Invariants.{entries_by, pile_by, Kept, Stage, Good}

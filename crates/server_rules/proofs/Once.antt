@@ -7,7 +7,7 @@ use Rattle.format.specs.declared.slot.PageRecord.{PageRecord}
 use Rattle.format.specs.declared.slot.Action.{Action}
 use Rattle.format.specs.declared.slot.Action.TheVariants.{Put, TakeBack}
 use Rattle.recovery_log.specs.Log.{Log, new_number, next, next_by, Numbered, rest, pending, pending_by}
-use Rattle.server_rules.specs.Reading.{at, up_to}
+use Rattle.rules.specs.Reading.{at, up_to}
 use Rattle.server_rules.specs.Compensations.{Acts, Change, Compensation, stands_for, TakesBack, AllTakeBack, NeverTwice, ExactlyOnce, AllOnce}
 use Rattle.server_rules.proofs.Cuts.{up_to_all}
 use Rattle.server_rules.proofs.Decoded.{up_to_more, at_more, at_above}

@@ -7,14 +7,14 @@ use Rattle.format.specs.declared.slot.JobEvent.{JobEvent}
 use Rattle.format.specs.declared.slot.JobEvent.TheVariants.{Open}
 use Rattle.format.specs.Changes.{Meaning, Lawful}
 use Rattle.recovery_log.specs.Log.{Log, new_number, commits, is_open, is_committed, pending}
-use Rattle.server_rules.specs.declared.refusal.Refusal.{Refusal}
-use Rattle.server_rules.specs.Ledger.{Ledger, Entry}
+use Rattle.rules.specs.declared.refusal.Refusal.{Refusal}
+use Rattle.rules.specs.Ledger.{Ledger, Entry}
 use Rattle.server_rules.specs.Plans.{Op, append, force, Does}
 use Rattle.server_rules.specs.Restart.{whole}
 use Rattle.server_rules.specs.Runs.{opens, told_service}
 use Rattle.server_rules.specs.Service.{with_jobs, has_place, has_room, open_in}
 use Rattle.server_rules.specs.State.{Devices, Memory, Working, serving, World, size, log_length, next_slot}
-use Rattle.server_rules.specs.Tables.{new_job, entered}
+use Rattle.rules.specs.Tables.{new_job, entered}
 use Rattle.server_rules.proofs.Asking.{asked, performing}
 use Rattle.server_rules.proofs.Decoded.{whole_length}
 use Rattle.server_rules.proofs.Invariants.{live, Kept, Stage, Good}

@@ -14,13 +14,13 @@ use Rattle.device.specs.declared.page_store.PageFault.TheVariants as page-fault
 use Rattle.device.specs.LogStores.{LogModel}
 use Rattle.device.specs.PageStores.{PageModel, PageWritten}
 use Rattle.recovery_log.specs.Log.{Log}
-use Rattle.server_rules.specs.declared.refusal.Refusal.{Refusal}
-use Rattle.server_rules.specs.Ledger.{Ledger}
-use Rattle.server_rules.specs.Numbers.{number_of}
+use Rattle.rules.specs.declared.refusal.Refusal.{Refusal}
+use Rattle.rules.specs.Ledger.{Ledger}
+use Rattle.rules.specs.Numbers.{number_of}
 use Rattle.server_rules.specs.Plans.{Op, append, force, write, Did, Failed, Performed, done, refusal_of_log, refusal_of_page, with_log, with_pages}
 use Rattle.server_rules.specs.Restart.{whole}
 use Rattle.server_rules.specs.State.{Devices, Memory, World, size, slots, log_length, sizes_legal}
-use Rattle.server_rules.specs.Reading.{known}
+use Rattle.rules.specs.Reading.{known}
 use Rattle.server_rules.proofs.Decoded.{whole_length, SlotPut, SlotKept, AppendOutcome, put, kept, appended_whole, ForceOutcome, forced_whole}
 use Rattle.server_rules.proofs.Fitting.{put_grows, page_written}
 use Rattle.server_rules.proofs.Images.{image_content}

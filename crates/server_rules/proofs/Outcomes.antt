@@ -10,11 +10,11 @@ use Rattle.format.specs.Slots.{slot_bytes}
 use Rattle.device.specs.declared.log_store.LogFault.{LogFault}
 use Rattle.device.specs.PageStores.{PageWritten}
 use Rattle.device.specs.LogStores.{LogModel, SlotAppended, LogForced}
-use Rattle.server_rules.specs.declared.refusal.Refusal.{Refusal}
+use Rattle.rules.specs.declared.refusal.Refusal.{Refusal}
 use Rattle.server_rules.specs.Plans.{Op, append, force, write, Plan, asks, insists, powers_on, performs, Did, Failed, Performed, done, next, Does, refused, granted, stopped, passed, began, performed, powered_on}
 use Rattle.server_rules.specs.Runner.{Failure, Left, old, new, without_slot, with_its_slot, more, fails_now, raised, Made, append_by, append_in, append_with, force_by, force_with, write_by, write_in, write_with, run_op, run_ops, run, go_on, later}
 use Rattle.server_rules.specs.Examples.{Event, Point, history, Reached}
-use Rattle.server_rules.specs.Ledger.{Ledger}
+use Rattle.rules.specs.Ledger.{Ledger}
 use Rattle.server_rules.specs.Runs.{Reaches, made, called, remade, plan_of}
 use Rattle.server_rules.specs.State.{Devices, Memory, World}
 

@@ -8,8 +8,8 @@ use Rattle.format.specs.declared.slot.JobEvent.{JobEvent}
 use Rattle.format.specs.declared.slot.JobEvent.TheVariants.{Open, Commit, End}
 use Rattle.format.specs.declared.slot.CheckpointPart.{CheckpointPart}
 use Rattle.recovery_log.specs.Log.{Log, new_number, opens, is_open, next_by, rest, pending}
-use Rattle.server_rules.specs.declared.table.JobEntry.{JobEntry}
-use Rattle.server_rules.specs.Tables.{Jobs, new_job, entered, find_job, is_job, with_next, without_job, owed}
+use Rattle.rules.specs.declared.table.JobEntry.{JobEntry}
+use Rattle.rules.specs.Tables.{Jobs, new_job, entered, find_job, is_job, with_next, without_job, owed}
 use Rattle.server_rules.proofs.Legal.{Legal, Room, open_jobs, owed_by, Undoes}
 use Rattle.server_rules.proofs.Membership.{In, here, there}
 use Rattle.server_rules.proofs.JobLaws.{fresh_pending, table_has, table_ascending}

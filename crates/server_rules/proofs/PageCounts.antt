@@ -6,8 +6,8 @@ use Rattle.format.specs.declared.slot.Slot.{Slot}
 use Rattle.format.specs.declared.slot.Slot.TheVariants.{Record, Job, Checkpoint}
 use Rattle.format.specs.declared.slot.PageRecord.{PageRecord}
 use Rattle.recovery_log.specs.Log.{Log, new_number, newest_lrc}
-use Rattle.server_rules.specs.Reading.{up_to}
-use Rattle.server_rules.specs.Playing.{first_lacked, lacks, last_lrc, or_else}
+use Rattle.rules.specs.Reading.{up_to}
+use Rattle.rules.specs.Playing.{first_lacked, lacks, last_lrc, or_else}
 use Rattle.server_rules.proofs.Legal.{count, Legal, Recorded, Older, same, more, masked}
 
 or_none : (o : Option ℕ) → or_else o None ≡ o

@@ -5,9 +5,9 @@ use Rattle.std.proofs.lemmas.Bool.{eqb-true, le-leb, or_cases, or_left, or_right
 use Rattle.format.specs.Changes.{Meaning}
 use Rattle.format.specs.Pages.{page_of, blank_page}
 use Rattle.recovery_log.specs.Log.{Log, is_committed}
-use Rattle.server_rules.specs.Ledger.{Ledger, empty, is_in, committed_of, settled}
+use Rattle.rules.specs.Ledger.{Ledger, empty, is_in, committed_of, settled}
 use Rattle.server_rules.specs.Plans.{powered_on}
-use Rattle.server_rules.specs.Reading.{up_to}
+use Rattle.rules.specs.Reading.{up_to}
 use Rattle.server_rules.specs.Restart.{whole}
 use Rattle.server_rules.specs.Runs.{blank, with_powers}
 use Rattle.server_rules.specs.State.{Devices, size, log_length}

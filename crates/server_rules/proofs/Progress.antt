@@ -4,15 +4,15 @@ use Rattle.format.specs.declared.slot.Slot.{Slot}
 use Rattle.format.specs.Changes.{Meaning, Lawful}
 use Rattle.device.specs.LogStores.{SlotAppended, LogForced}
 use Rattle.device.specs.PageStores.{PageWritten}
-use Rattle.server_rules.specs.declared.refusal.Refusal.{Refusal}
-use Rattle.server_rules.specs.Ledger.{Ledger, settled}
+use Rattle.rules.specs.declared.refusal.Refusal.{Refusal}
+use Rattle.rules.specs.Ledger.{Ledger, settled}
 use Rattle.server_rules.specs.Plans.{Op, append, force, write, Did, Performed, done, next, Does, granted, passed, began, performed, powered_on}
 use Rattle.server_rules.specs.Promises.{Restarted}
-use Rattle.server_rules.specs.Reading.{last_end}
+use Rattle.rules.specs.Reading.{last_end}
 use Rattle.server_rules.specs.Restart.{whole, analysed_plan, Replay, redone_plan, undone, undone_plan}
 use Rattle.server_rules.specs.Service.{appends}
 use Rattle.server_rules.specs.State.{Devices, Found, Working, Memory, out, analysed, redone, serving, World, size, slots}
-use Rattle.server_rules.specs.Tables.{least_start}
+use Rattle.rules.specs.Tables.{least_start}
 use Rattle.server_rules.proofs.Analysis.{AnalysisTrue, analysis_done, last_ends, last_inside}
 use Rattle.server_rules.proofs.Appends.{safe_appends}
 use Rattle.server_rules.proofs.Decoded.{whole_length}

@@ -5,13 +5,13 @@ use Rattle.format.specs.declared.slot.Slot.TheVariants.{Job}
 use Rattle.format.specs.declared.slot.JobEvent.TheVariants.{Commit}
 use Rattle.format.specs.Changes.{Meaning, Lawful}
 use Rattle.recovery_log.specs.Log.{Log, is_open}
-use Rattle.server_rules.specs.declared.refusal.Refusal.{Refusal}
+use Rattle.rules.specs.declared.refusal.Refusal.{Refusal}
 use Rattle.server_rules.specs.Compensations.{AllOnce}
-use Rattle.server_rules.specs.Ledger.{Ledger, is_in, content_of}
-use Rattle.server_rules.specs.Numbers.{number_of}
+use Rattle.rules.specs.Ledger.{Ledger, is_in, content_of}
+use Rattle.rules.specs.Numbers.{number_of}
 use Rattle.server_rules.specs.Plans.{Plan, Does}
 use Rattle.server_rules.specs.Promises.{BlankBegins, LooksRight, CommitsStand, KeptExactly, CompensatedOnce, LosersUndone, CheckpointsAgree, NeverRefused, AgainNothing, CutOrNot}
-use Rattle.server_rules.specs.Reading.{at}
+use Rattle.rules.specs.Reading.{at}
 use Rattle.server_rules.specs.Restart.{whole}
 use Rattle.server_rules.specs.Runs.{looks, commits, in_service_plan, Reaches}
 use Rattle.server_rules.specs.Service.{in_service}

@@ -5,14 +5,14 @@ use Rattle.format.specs.declared.slot.Slot.{Slot}
 use Rattle.format.specs.declared.slot.Slot.TheVariants.{Record}
 use Rattle.format.specs.Changes.{Meaning, Lawful}
 use Rattle.recovery_log.specs.Log.{Log, new_number, is_open, is_committed, Numbered, pending}
-use Rattle.server_rules.specs.declared.refusal.Refusal.{Refusal}
-use Rattle.server_rules.specs.Ledger.{Ledger, Entry, with_entry}
+use Rattle.rules.specs.declared.refusal.Refusal.{Refusal}
+use Rattle.rules.specs.Ledger.{Ledger, Entry, with_entry}
 use Rattle.server_rules.specs.Plans.{append, Does}
 use Rattle.server_rules.specs.Restart.{whole}
 use Rattle.server_rules.specs.Runs.{records, told_service}
 use Rattle.server_rules.specs.Service.{copy_of, with_jobs, in_store, follows_last, has_room, change_for, recorded, record_in}
 use Rattle.server_rules.specs.State.{Devices, Memory, Working, serving, World, size, next_slot}
-use Rattle.server_rules.specs.Tables.{is_job, with_next, held_by, is_held}
+use Rattle.rules.specs.Tables.{is_job, with_next, held_by, is_held}
 use Rattle.server_rules.proofs.Asking.{asked, performing}
 use Rattle.server_rules.proofs.Decoded.{whole_length}
 use Rattle.server_rules.proofs.Invariants.{live, entry_of, entries_by, Kept, Stage, Good}

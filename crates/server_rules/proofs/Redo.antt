@@ -10,15 +10,15 @@ use Rattle.format.specs.declared.slot.PageRecord.{PageRecord}
 use Rattle.format.specs.Changes.{Meaning}
 use Rattle.format.specs.Pages.{page_of, blank_page}
 use Rattle.recovery_log.specs.Log.{Log, new_number}
-use Rattle.server_rules.specs.declared.table.DirtyPage.{DirtyPage}
-use Rattle.server_rules.specs.Playing.{play}
-use Rattle.server_rules.specs.Reading.{up_to, scan, last_end}
+use Rattle.rules.specs.declared.table.DirtyPage.{DirtyPage}
+use Rattle.rules.specs.Playing.{play}
+use Rattle.rules.specs.Reading.{up_to, scan, last_end}
 use Rattle.server_rules.specs.Plans.{powered_on, performs}
 use Rattle.server_rules.specs.Restart.{Replay, is_due, none_ahead, whole, found_in, replay, replayed, redone_plan, stored_pages}
 use Rattle.server_rules.specs.Runs.{blank}
 use Rattle.server_rules.specs.Service.{copy_of}
 use Rattle.server_rules.specs.State.{Devices, Found, Working, redone, size, slots, log_length}
-use Rattle.server_rules.specs.Tables.{Dirty, find_page, least_from, least_start}
+use Rattle.rules.specs.Tables.{Dirty, find_page, least_from, least_start}
 use Rattle.server_rules.proofs.Legal.{count, image, whole_page, Legal, Recorded, Older, same}
 use Rattle.server_rules.proofs.Invariants.{start_of, Positive, Covers, stored, stored_lrcs, Durable, Analysed, First, Redone}
 use Rattle.server_rules.proofs.Membership.{In, here, there}

@@ -2,14 +2,14 @@
 use Rattle.std.proofs.Common.{◌≡◌, ℕ, ◌≤◌, [], length, Ok, Err, Result, sym, refl, ◌∙◌, subst, arith}
 use Rattle.std.proofs.lemmas.Bool.{false≢true}
 use Rattle.format.specs.Changes.{Meaning}
-use Rattle.server_rules.specs.declared.refusal.Refusal.{Refusal}
-use Rattle.server_rules.specs.declared.refusal.Refusal.TheVariants.{NotTheNextPass}
-use Rattle.server_rules.specs.Ledger.{Ledger}
+use Rattle.rules.specs.declared.refusal.Refusal.{Refusal}
+use Rattle.rules.specs.declared.refusal.Refusal.TheVariants.{NotTheNextPass}
+use Rattle.rules.specs.Ledger.{Ledger}
 use Rattle.server_rules.specs.Plans.{Plan, powers_on, Performed, done, Does, refused, granted, began, powered_on}
-use Rattle.server_rules.specs.Reading.{last_end}
+use Rattle.rules.specs.Reading.{last_end}
 use Rattle.server_rules.specs.Restart.{whole, found_in, analysed_plan, analysis_plan, redo_plan, redone_plan, replayed, Replay, stored_pages}
 use Rattle.server_rules.specs.State.{Devices, Found, Memory, out, analysed, redone, serving, World, slots, log_length}
-use Rattle.server_rules.specs.Tables.{least_start}
+use Rattle.rules.specs.Tables.{least_start}
 use Rattle.server_rules.proofs.Analysis.{AnalysisTrue, analysis_done, last_ends, last_inside}
 use Rattle.server_rules.proofs.Asking.{asked, answered, insisted, performing, readied}
 use Rattle.server_rules.proofs.Decoded.{length_powered_on}

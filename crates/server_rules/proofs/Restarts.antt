@@ -10,13 +10,13 @@ use Rattle.format.specs.Changes.{Meaning, Lawful}
 use Rattle.format.specs.Pages.{blank_page}
 use Rattle.recovery_log.specs.Log.{Log}
 use Rattle.device.specs.PageStores.{PageModel}
-use Rattle.server_rules.specs.Ledger.{Ledger, settled}
+use Rattle.rules.specs.Ledger.{Ledger, settled}
 use Rattle.server_rules.specs.Plans.{Does, powered_on}
 use Rattle.server_rules.specs.Promises.{Restarted, outcome_of, outcome_by, restart_by, Agrees, Unchanged}
-use Rattle.server_rules.specs.Reading.{at}
+use Rattle.rules.specs.Reading.{at}
 use Rattle.server_rules.specs.Restart.{whole, undone, redo_plan, undo_plan}
 use Rattle.server_rules.specs.State.{Devices, Found, Working, Memory, analysed, redone, World, working}
-use Rattle.server_rules.specs.Tables.{Jobs}
+use Rattle.rules.specs.Tables.{Jobs}
 use Rattle.server_rules.proofs.Analysis.{EndsAt, AnalysisTrue, analysis_done}
 use Rattle.server_rules.proofs.Cuts.{up_to_all}
 use Rattle.server_rules.proofs.Decoded.{at_above, whole_length, whole_powered_on}

@@ -1,9 +1,9 @@
 -- Every state of a run is good.
 use Rattle.std.proofs.Common.{◌≡◌, ℕ, Result, sym, refl, subst, subst₂}
 use Rattle.format.specs.Changes.{Meaning, Lawful}
-use Rattle.server_rules.specs.declared.refusal.Refusal.{Refusal}
-use Rattle.server_rules.specs.declared.refusal.Refusal.TheVariants.{NotInService}
-use Rattle.server_rules.specs.Ledger.{Ledger}
+use Rattle.rules.specs.declared.refusal.Refusal.{Refusal}
+use Rattle.rules.specs.declared.refusal.Refusal.TheVariants.{NotInService}
+use Rattle.rules.specs.Ledger.{Ledger}
 use Rattle.server_rules.specs.Plans.{Does}
 use Rattle.server_rules.specs.Restart.{analysis_plan, redo_plan, undo_plan}
 use Rattle.server_rules.specs.Runs.{Call, analysis, redo, undo, service, ServiceCall, opens, fetches, records, ships, writes_out, commits, aborts, looks, checkpoints, Answers, Answer, in_service_plan, plan_of, denied, told_service, told_analysis, told, Reaches, made, called, remade}

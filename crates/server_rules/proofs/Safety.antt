@@ -9,9 +9,9 @@ use Rattle.format.specs.declared.slot.CheckpointPart.{CheckpointPart}
 use Rattle.format.specs.declared.slot.CheckpointPart.TheVariants.{Begin, DirtyPage, OpenJob, Complete}
 use Rattle.format.specs.Changes.{Meaning}
 use Rattle.recovery_log.specs.Log.{Log, new_number, is_committed}
-use Rattle.server_rules.specs.declared.refusal.Refusal.{Refusal}
-use Rattle.server_rules.specs.Ledger.{Ledger, is_in}
-use Rattle.server_rules.specs.Numbers.{number_of}
+use Rattle.rules.specs.declared.refusal.Refusal.{Refusal}
+use Rattle.rules.specs.Ledger.{Ledger, is_in}
+use Rattle.rules.specs.Numbers.{number_of}
 use Rattle.server_rules.specs.Plans.{Op, append, force, write, Did}
 use Rattle.server_rules.specs.Restart.{whole}
 use Rattle.server_rules.specs.State.{Devices, Memory, out, World, size, log_length}

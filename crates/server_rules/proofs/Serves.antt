@@ -7,17 +7,17 @@ use Rattle.format.specs.Changes.{Meaning}
 use Rattle.format.specs.Pages.{page_of}
 use Rattle.device.specs.PageStores.{PageModel}
 use Rattle.recovery_log.specs.Log.{Log, new_number, is_open, next, Numbered, pending, pending_by}
-use Rattle.server_rules.specs.declared.table.JobEntry.{JobEntry}
-use Rattle.server_rules.specs.declared.refusal.Refusal.{Refusal}
-use Rattle.server_rules.specs.Ledger.{Ledger, Entry}
-use Rattle.server_rules.specs.Numbers.{number_of}
+use Rattle.rules.specs.declared.table.JobEntry.{JobEntry}
+use Rattle.rules.specs.declared.refusal.Refusal.{Refusal}
+use Rattle.rules.specs.Ledger.{Ledger, Entry}
+use Rattle.rules.specs.Numbers.{number_of}
 use Rattle.server_rules.specs.Plans.{Op, performs, Does, performed, done}
-use Rattle.server_rules.specs.Playing.{lacks, last_lrc}
-use Rattle.server_rules.specs.Reading.{up_to}
+use Rattle.rules.specs.Playing.{lacks, last_lrc}
+use Rattle.rules.specs.Reading.{up_to}
 use Rattle.server_rules.specs.Restart.{whole}
 use Rattle.server_rules.specs.Service.{copy_of, log_read, last_of, has_room}
 use Rattle.server_rules.specs.State.{Devices, Memory, World, Working, size, slots}
-use Rattle.server_rules.specs.Tables.{Jobs, find_job, is_job, next_of, held_by, is_held, owed}
+use Rattle.rules.specs.Tables.{Jobs, find_job, is_job, next_of, held_by, is_held, owed}
 use Rattle.server_rules.proofs.Decoded.{known_masked, whole_length, length_masked}
 use Rattle.server_rules.proofs.Invariants.{bare, before, entries_by, stored_lrcs, Durable, Kept, First, Copy, Serving, Stage, Good}
 use Rattle.server_rules.proofs.JobLaws.{open_old, table_has, table_next, table_ascending}

@@ -7,15 +7,15 @@ use Rattle.format.specs.Bytes.{number_at}
 use Rattle.format.specs.Changes.{Meaning, Lawful}
 use Rattle.format.specs.Pages.{page_bytes, page_of, blank_page}
 use Rattle.recovery_log.specs.Log.{Log}
-use Rattle.server_rules.specs.declared.refusal.Refusal.{Refusal}
-use Rattle.server_rules.specs.Ledger.{Ledger}
+use Rattle.rules.specs.declared.refusal.Refusal.{Refusal}
+use Rattle.rules.specs.Ledger.{Ledger}
 use Rattle.server_rules.specs.Plans.{Does}
-use Rattle.server_rules.specs.Playing.{played, up_to_lrc}
+use Rattle.rules.specs.Playing.{played, up_to_lrc}
 use Rattle.server_rules.specs.Restart.{whole}
 use Rattle.server_rules.specs.Runs.{ships, told_service}
 use Rattle.server_rules.specs.Service.{copy_of, ship_in, log_read, last_of, up_to_last, gives_image, with_copy}
 use Rattle.server_rules.specs.State.{Devices, serving, World, Working, size}
-use Rattle.server_rules.specs.Tables.{is_held, held_by}
+use Rattle.rules.specs.Tables.{is_held, held_by}
 use Rattle.server_rules.proofs.Asking.{asked}
 use Rattle.server_rules.proofs.Fitting.{page_written, same_image}
 use Rattle.server_rules.proofs.Images.{image_content, image_lrc, played_image}

@@ -11,8 +11,8 @@ use Rattle.format.specs.declared.slot.CheckpointPart.TheVariants.{Complete}
 use Rattle.format.specs.declared.page.Page.{Page}
 use Rattle.format.specs.Changes.{Meaning}
 use Rattle.recovery_log.specs.Log.{Log, new_number, Numbered, commits, is_committed}
-use Rattle.server_rules.specs.Ledger.{Ledger, Entry, is_in}
-use Rattle.server_rules.specs.Reading.{at, up_to}
+use Rattle.rules.specs.Ledger.{Ledger, Entry, is_in}
+use Rattle.rules.specs.Reading.{at, up_to}
 use Rattle.server_rules.specs.Restart.{whole}
 use Rattle.server_rules.specs.State.{Devices, size}
 use Rattle.server_rules.proofs.Cuts.{older_up_to, exclusive_up_to, length_up_to, up_to_all, at_up_to, up_to_up_to, committed_older, legal_up_to}

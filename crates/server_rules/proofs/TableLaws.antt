@@ -3,9 +3,9 @@ use Rattle.std.proofs.Common.{◌≡◌, ℕ, zero, suc, ◌<◌, Bool, true, fa
 use Rattle.std.specs.Option.{option_map}
 use Rattle.std.proofs.lemmas.Bool.{eqb-true, false≢true, true≢false, and_parts, and_from, or_cases, or_parts, or_from, or_left, or_right, not_from_true}
 use Rattle.std.proofs.lemmas.Bool.Decides.{nat_tests}
-use Rattle.server_rules.specs.declared.table.JobEntry.{JobEntry}
+use Rattle.rules.specs.declared.table.JobEntry.{JobEntry}
 use Rattle.server_rules.specs.Service.{each_held, holds_of}
-use Rattle.server_rules.specs.Tables.{Jobs, new_job, entered, find_job, is_job, next_of, with_next, without_job, holds_page, with_hold, held_by, held_by_another, is_held}
+use Rattle.rules.specs.Tables.{Jobs, new_job, entered, find_job, is_job, next_of, with_next, without_job, holds_page, with_hold, held_by, held_by_another, is_held}
 use Rattle.server_rules.proofs.Invariants.{bare}
 use Rattle.server_rules.proofs.Membership.{In, here, there}
 

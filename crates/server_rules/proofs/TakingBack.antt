@@ -12,10 +12,10 @@ use Rattle.format.specs.declared.slot.JobEvent.TheVariants.{End}
 use Rattle.format.specs.Changes.{Meaning}
 use Rattle.format.specs.Pages.{blank_page}
 use Rattle.recovery_log.specs.Log.{Log, new_number, is_open, is_committed, next, Numbered, rest, pending}
-use Rattle.server_rules.specs.Playing.{play}
-use Rattle.server_rules.specs.Reading.{at}
+use Rattle.rules.specs.Playing.{play}
+use Rattle.rules.specs.Reading.{at}
 use Rattle.server_rules.specs.Service.{copy_of, Work, Stopped, lrc_after, change_of, compensation, finished, taken_back, all_back}
-use Rattle.server_rules.specs.Tables.{Jobs, with_next, without_job}
+use Rattle.rules.specs.Tables.{Jobs, with_next, without_job}
 use Rattle.server_rules.proofs.Images.{image_lrc, play_next}
 use Rattle.server_rules.proofs.Invariants.{pile_by}
 use Rattle.server_rules.proofs.JobLaws.{top_number, Stacked, open_old, next_top, next_none, chained, pending_at, descending, top_change}

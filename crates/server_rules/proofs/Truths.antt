@@ -6,11 +6,11 @@ use Rattle.format.specs.declared.slot.Slot.{Slot}
 use Rattle.format.specs.declared.slot.Slot.TheVariants.{Record, Job, Checkpoint}
 use Rattle.format.specs.declared.slot.CheckpointPart.TheVariants.{Begin, DirtyPage, OpenJob, Complete}
 use Rattle.recovery_log.specs.Log.{Log, new_number}
-use Rattle.server_rules.specs.declared.refusal.Refusal.{Refusal}
-use Rattle.server_rules.specs.Reading.{at, up_to, scan, then}
+use Rattle.rules.specs.declared.refusal.Refusal.{Refusal}
+use Rattle.rules.specs.Reading.{at, up_to, scan, then}
 use Rattle.server_rules.specs.Restart.{Tables, tables, Start, gather, from_begin, from_end, start_at}
 use Rattle.server_rules.specs.Service.{has_place}
-use Rattle.server_rules.specs.Tables.{Dirty, find_page, is_job}
+use Rattle.rules.specs.Tables.{Dirty, find_page, is_job}
 use Rattle.server_rules.proofs.Cuts.{at_up_to, up_to_up_to, legal_up_to}
 use Rattle.server_rules.proofs.Invariants.{start_of, Truth}
 use Rattle.server_rules.proofs.Legal.{count, open_jobs, NextSlot, Legal}

@@ -10,12 +10,12 @@ use Rattle.format.specs.declared.slot.Action.TheVariants.{TakeBack}
 use Rattle.format.specs.declared.slot.JobEvent.TheVariants.{End}
 use Rattle.format.specs.Changes.{Meaning}
 use Rattle.recovery_log.specs.Log.{Log, is_open, is_committed, next, Numbered, pending}
-use Rattle.server_rules.specs.declared.table.JobEntry.{JobEntry}
-use Rattle.server_rules.specs.Reading.{at}
+use Rattle.rules.specs.declared.table.JobEntry.{JobEntry}
+use Rattle.rules.specs.Reading.{at}
 use Rattle.server_rules.specs.Restart.{Undoing, Undone, latest_of, latest, whole, goes_on, has_slot, ended, then_undo, end_job, end_idle, compensated, undo_change, undo_latest, undo_all, undone}
 use Rattle.server_rules.specs.Service.{copy_of, compensation, change_of}
 use Rattle.server_rules.specs.State.{Devices, Working, size}
-use Rattle.server_rules.specs.Tables.{Jobs, find_job, is_job, with_next, without_job}
+use Rattle.rules.specs.Tables.{Jobs, find_job, is_job, with_next, without_job}
 use Rattle.server_rules.proofs.Invariants.{pile_by, Durable, Redone}
 use Rattle.server_rules.proofs.JobLaws.{top_number, next_top, next_none, pending_at, top_change, table_has, table_ascending, table_entry}
 use Rattle.server_rules.proofs.JobTables.{above_in, Ascending}

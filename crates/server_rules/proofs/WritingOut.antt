@@ -10,8 +10,8 @@ use Rattle.format.specs.Pages.{page_of}
 use Rattle.device.specs.PageStores.{PageModel}
 use Rattle.device.specs.LogStores.{LogModel}
 use Rattle.recovery_log.specs.Log.{Log, is_open, is_committed, pending}
-use Rattle.server_rules.specs.declared.refusal.Refusal.{Refusal}
-use Rattle.server_rules.specs.Ledger.{Ledger}
+use Rattle.rules.specs.declared.refusal.Refusal.{Refusal}
+use Rattle.rules.specs.Ledger.{Ledger}
 use Rattle.server_rules.specs.Plans.{force, write, Does}
 use Rattle.server_rules.specs.Restart.{whole}
 use Rattle.server_rules.specs.Runs.{writes_out, told_service}

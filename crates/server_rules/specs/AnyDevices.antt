@@ -5,15 +5,15 @@ use Rattle.format.specs.Changes.{Meaning}
 use Rattle.format.specs.Slots.{slot_bytes, read_slot}
 use Rattle.device.specs.PageStores.{SoundPages}
 use Rattle.device.specs.LogStores.{SoundLog}
-use Rattle.server_rules.specs.declared.refusal.Refusal.{Refusal}
-use Rattle.server_rules.specs.Numbers.{number_of}
+use Rattle.rules.specs.declared.refusal.Refusal.{Refusal}
+use Rattle.rules.specs.Numbers.{number_of}
 use Rattle.server_rules.specs.Plans.{Op, append, force, write, Plan, asks, insists, powers_on, performs, powered_on, Does}
-use Rattle.server_rules.specs.Reading.{at}
+use Rattle.rules.specs.Reading.{at}
 use Rattle.server_rules.specs.Restart.{whole}
 use Rattle.server_rules.specs.Runs.{ServiceCall, Answers, Call, Answer, service_plan, plan_of, with_powers}
 use Rattle.server_rules.specs.Service.{copy_of, change_of, log_read, last_of}
 use Rattle.server_rules.specs.State.{Devices, Working, Memory, out, analysed, redone, serving, World, size, log_length, free, sizes_legal}
-use Rattle.server_rules.specs.Tables.{is_job, next_of, owed}
+use Rattle.rules.specs.Tables.{is_job, next_of, owed}
 
 -- all that the models of the devices guarantee; the bytes may be any
 pub record SoundDevices (d : Devices) : Type 0 where

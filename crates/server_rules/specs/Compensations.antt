@@ -5,7 +5,7 @@ use Rattle.format.specs.declared.slot.PageRecord.{PageRecord}
 use Rattle.format.specs.declared.slot.Action.{Action}
 use Rattle.format.specs.declared.slot.Action.TheVariants.{Put, TakeBack}
 use Rattle.recovery_log.specs.Log.{Log, next}
-use Rattle.server_rules.specs.Reading.{at, up_to}
+use Rattle.rules.specs.Reading.{at, up_to}
 
 module _ {C : Type 0} where
   -- slot n of the log is that record, and its action is that one

@@ -7,10 +7,10 @@ use Rattle.changes.specs.Additions.{addition_meaning}
 use Rattle.format.specs.Bytes.{number_at, spelled}
 use Rattle.format.specs.Changes.{Meaning}
 use Rattle.changes.specs.Patches.{patch_meaning}
-use Rattle.server_rules.specs.declared.refusal.Device.{Device}
-use Rattle.server_rules.specs.declared.refusal.Refusal.{Refusal}
-use Rattle.server_rules.specs.Ledger.{Ledger, empty}
-use Rattle.server_rules.specs.Numbers.{number_of, place_of}
+use Rattle.rules.specs.declared.refusal.Device.{Device}
+use Rattle.rules.specs.declared.refusal.Refusal.{Refusal}
+use Rattle.rules.specs.Ledger.{Ledger, empty}
+use Rattle.rules.specs.Numbers.{number_of, place_of}
 use Rattle.server_rules.specs.Plans.{Does}
 use Rattle.server_rules.specs.Runner.{Failure, power_kept, more, run, Ran}
 use Rattle.server_rules.specs.Runs.{Call, analysis, redo, undo, service, ServiceCall, opens, fetches, records, ships, writes_out, commits, aborts, looks, checkpoints, Answer, Answers, plan_of, told, blank, Reaches}

@@ -1,12 +1,7 @@
-pub mod Numbers
-pub mod Playing
 pub mod Plans
-pub mod Reading
 pub mod Restart
 pub mod Service
 pub mod State
-pub mod Tables
-pub mod Ledger
 pub mod Runs
 pub mod Compensations
 pub mod Promises

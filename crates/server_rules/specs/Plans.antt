@@ -15,9 +15,9 @@ use Rattle.device.specs.PageStores as page-store
 use Rattle.device.specs.PageStores.{PageModel, PageWritten}
 use Rattle.device.specs.LogStores as log-store
 use Rattle.device.specs.LogStores.{LogModel, SlotAppended, LogForced}
-use Rattle.server_rules.specs.declared.refusal.Refusal.{Refusal}
-use Rattle.server_rules.specs.declared.refusal.Refusal.TheVariants.{PageOutside, LogFull, LogUnreadable, PowerLost}
-use Rattle.server_rules.specs.declared.refusal.Device.TheVariants as device
+use Rattle.rules.specs.declared.refusal.Refusal.{Refusal}
+use Rattle.rules.specs.declared.refusal.Refusal.TheVariants.{PageOutside, LogFull, LogUnreadable, PowerLost}
+use Rattle.rules.specs.declared.refusal.Device.TheVariants as device
 use Rattle.server_rules.specs.State.{Devices, Memory, out, World}
 
 pub data Op (C : Type 0) : Type 0 where

@@ -7,12 +7,12 @@ use Rattle.format.specs.declared.slot.JobEvent.TheVariants.{Commit}
 use Rattle.format.specs.declared.slot.CheckpointPart.TheVariants.{Complete}
 use Rattle.format.specs.Changes.{Meaning}
 use Rattle.recovery_log.specs.Log.{is_committed}
-use Rattle.server_rules.specs.declared.refusal.Refusal.{Refusal}
+use Rattle.rules.specs.declared.refusal.Refusal.{Refusal}
 use Rattle.server_rules.specs.Compensations.{AllTakeBack, NeverTwice, AllOnce}
-use Rattle.server_rules.specs.Ledger.{Ledger, is_in, content_of}
-use Rattle.server_rules.specs.Numbers.{number_of}
+use Rattle.rules.specs.Ledger.{Ledger, is_in, content_of}
+use Rattle.rules.specs.Numbers.{number_of}
 use Rattle.server_rules.specs.Plans.{Does, powered_on}
-use Rattle.server_rules.specs.Reading.{at, then}
+use Rattle.rules.specs.Reading.{at, then}
 use Rattle.server_rules.specs.Restart.{whole, found_in, stored_pages, replayed, Undone, undone, analysis_plan, redo_plan, undo_plan}
 use Rattle.server_rules.specs.Runs.{analysis, redo, undo, looks, commits, Answer, service_plan, blank, with_powers, Reaches, Later}
 use Rattle.server_rules.specs.Service.{copy_of}

@@ -12,15 +12,15 @@ use Rattle.format.specs.declared.slot.CheckpointPart.TheVariants.{Begin, DirtyPa
 use Rattle.format.specs.Changes.{Meaning}
 use Rattle.format.specs.Pages.{page_of}
 use Rattle.recovery_log.specs.Log.{Log, next_by}
-use Rattle.server_rules.specs.declared.refusal.Refusal.{Refusal}
-use Rattle.server_rules.specs.declared.refusal.Refusal.TheVariants.{SizesOutOfRange, NotTheNextPass, NoJobPlace, LrcOutOfOrder, LogFull, LogUnreadable, StoreAhead}
-use Rattle.server_rules.specs.declared.table.JobEntry.{JobEntry}
+use Rattle.rules.specs.declared.refusal.Refusal.{Refusal}
+use Rattle.rules.specs.declared.refusal.Refusal.TheVariants.{SizesOutOfRange, NotTheNextPass, NoJobPlace, LrcOutOfOrder, LogFull, LogUnreadable, StoreAhead}
+use Rattle.rules.specs.declared.table.JobEntry.{JobEntry}
 use Rattle.server_rules.specs.Plans.{force, Plan, asks, insists, powers_on, performs}
-use Rattle.server_rules.specs.Playing.{play}
-use Rattle.server_rules.specs.Reading.{known, at, up_to, scan, then, last_end}
+use Rattle.rules.specs.Playing.{play}
+use Rattle.rules.specs.Reading.{known, at, up_to, scan, then, last_end}
 use Rattle.server_rules.specs.Service.{ready, copy_of, has_place, Work, with_slot, taken_back, change_of, appends}
 use Rattle.server_rules.specs.State.{Devices, out, analysed, redone, serving, World, Found, Working, is_analysed, is_redone, found_in_memory, working, size, slots, log_length, sizes_legal}
-use Rattle.server_rules.specs.Tables.{Jobs, Dirty, new_job, entered, is_job, with_next, without_job, find_page, with_dirty, least_start}
+use Rattle.rules.specs.Tables.{Jobs, Dirty, new_job, entered, is_job, with_next, without_job, find_page, with_dirty, least_start}
 
 pub record Tables : Type 0 where
   pub jobs : Jobs

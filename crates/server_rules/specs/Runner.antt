@@ -6,9 +6,9 @@ use Rattle.format.specs.Pages.{page_bytes}
 use Rattle.format.specs.Slots.{slot_bytes}
 use Rattle.device.specs.PageStores.{PageModel, with_page, without_power}
 use Rattle.device.specs.LogStores.{LogModel, state, with_slot, new_slot}
-use Rattle.server_rules.specs.declared.refusal.Refusal.{Refusal}
-use Rattle.server_rules.specs.declared.refusal.Refusal.TheVariants.{PageOutside, LogFull, PowerLost}
-use Rattle.server_rules.specs.declared.refusal.Device.TheVariants as device
+use Rattle.rules.specs.declared.refusal.Refusal.{Refusal}
+use Rattle.rules.specs.declared.refusal.Refusal.TheVariants.{PageOutside, LogFull, PowerLost}
+use Rattle.rules.specs.declared.refusal.Device.TheVariants as device
 use Rattle.server_rules.specs.Plans.{Op, append, force, write, Plan, asks, insists, powers_on, performs, with_pages, with_log, powered_on}
 use Rattle.server_rules.specs.State.{Devices, Memory, out, World}
 

@@ -1,9 +1,9 @@
 -- Runs: what is reached from a server just made over blank devices, by any calls with any outcomes and by making a server again. Assumes nothing.
 use Rattle.std.specs.Prelude.{ℕ, ◌≤◌, Bool, cond, List, [], replicate, Ok, Err, Result, ◌==◌}
 use Rattle.format.specs.Changes.{Meaning}
-use Rattle.server_rules.specs.declared.refusal.Refusal.{Refusal}
-use Rattle.server_rules.specs.Numbers.{number_of}
-use Rattle.server_rules.specs.Ledger.{Ledger, empty, with_entry, with_kept, with_doubt, settled}
+use Rattle.rules.specs.declared.refusal.Refusal.{Refusal}
+use Rattle.rules.specs.Numbers.{number_of}
+use Rattle.rules.specs.Ledger.{Ledger, empty, with_entry, with_kept, with_doubt, settled}
 use Rattle.server_rules.specs.Plans.{Plan, Does}
 use Rattle.server_rules.specs.Restart.{whole, analysis_plan, redo_plan, undo_plan}
 use Rattle.server_rules.specs.Service.{in_service, open_in, fetch_in, record_in, ship_in, write_out_in, commit_in, abort_in, look_in, checkpoint_in}

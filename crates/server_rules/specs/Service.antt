@@ -14,14 +14,14 @@ use Rattle.format.specs.Bytes.{number_at}
 use Rattle.format.specs.Changes.{Meaning}
 use Rattle.format.specs.Pages.{page_bytes, page_of, blank_page}
 use Rattle.recovery_log.specs.Log.{Log}
-use Rattle.server_rules.specs.declared.refusal.Refusal.{Refusal}
-use Rattle.server_rules.specs.declared.refusal.Refusal.TheVariants.{SizesOutOfRange, NotInService, NoJobPlace, JobNotOpen, PageOutside, BufferSize, NotHeld, HeldAlready, NotAChange, LrcOutOfOrder, ImageDiffers, CopyIncomplete, LogFull, LogUnreadable, PowerLost}
-use Rattle.server_rules.specs.declared.refusal.Device.TheVariants as device
+use Rattle.rules.specs.declared.refusal.Refusal.{Refusal}
+use Rattle.rules.specs.declared.refusal.Refusal.TheVariants.{SizesOutOfRange, NotInService, NoJobPlace, JobNotOpen, PageOutside, BufferSize, NotHeld, HeldAlready, NotAChange, LrcOutOfOrder, ImageDiffers, CopyIncomplete, LogFull, LogUnreadable, PowerLost}
+use Rattle.rules.specs.declared.refusal.Device.TheVariants as device
 use Rattle.server_rules.specs.Plans.{Op, append, force, write, Plan, asks, insists, performs}
-use Rattle.server_rules.specs.Playing.{play, played, of_page, up_to_lrc, first_lacked, lacks, last_lrc}
-use Rattle.server_rules.specs.Reading.{known, at}
+use Rattle.rules.specs.Playing.{play, played, of_page, up_to_lrc, first_lacked, lacks, last_lrc}
+use Rattle.rules.specs.Reading.{known, at}
 use Rattle.server_rules.specs.State.{Devices, Memory, out, serving, World, Working, is_serving, working, size, slots, log_length, next_slot, free, sizes_legal}
-use Rattle.server_rules.specs.Tables.{Jobs, new_job, entered, is_job, next_of, with_next, without_job, with_hold, held_by, held_by_another, is_held, owed}
+use Rattle.rules.specs.Tables.{Jobs, new_job, entered, is_job, next_of, with_next, without_job, with_hold, held_by, held_by_another, is_held, owed}
 
 -- What the calls share
 

@@ -3,7 +3,7 @@ use Rattle.std.specs.Prelude.{ℕ, suc, ◌-◌, Bool, true, false, ◌&&◌, Li
 use Rattle.format.specs.declared.page.Page.{Page}
 use Rattle.device.specs.PageStores.{PageModel}
 use Rattle.device.specs.LogStores.{LogModel}
-use Rattle.server_rules.specs.Tables.{Jobs, Dirty}
+use Rattle.rules.specs.Tables.{Jobs, Dirty}
 
 pub record Devices : Type 0 where
   pub pages : PageModel

@@ -1,9 +1,9 @@
 -- A loop that changes the entries of a list one after the other.
 use Rattle.std.proofs.Common.{◌≡◌, ℕ, ◌+◌, ◌<◌, ◌≤◌, List, [], ◌∷◌, ◌++◌, length, get_or, take, drop, set, sym, refl, ap, ◌∙◌, arith, le-ltb, lt-ltb, eq-eqb, ne_eqb}
 use Rattle.std.proofs.lemmas.List.{append_assoc, append-nil, at_drop_more, take_more, take_more_set, take_all, take_at, drop_at, drop_more, length-take-le, drop_all, drop-set-lt, get_or_read}
-use Rattle.server_rules.specs.declared.table.JobEntry.{JobEntry}
+use Rattle.rules.specs.declared.table.JobEntry.{JobEntry}
 use Rattle.tables.specs.Entry.{no_entry}
-use Rattle.server_rules.specs.Tables.{Jobs, entered, without_job}
+use Rattle.rules.specs.Tables.{Jobs, entered, without_job}
 
 -- one entry more: what is left gives the whole
 pub one_more : {X : Type 0} (F : List X → List X) (f : X → X) (all xs : List X) (i : ℕ) (d : X)

@@ -2,9 +2,9 @@
 use Rattle.std.proofs.Common.{◌≡◌, ℕ, ◌+◌, ◌-◌, ◌<◌, ◌≤◌, Bool, true, false, cond, not, ◌&&◌, ◌||◌, eqb, List, [], ◌∷◌, length, get_or, take, drop, Some, sym, refl, ap, ◌∙◌, arith, eq-eqb, ne_eqb}
 use Rattle.std.proofs.lemmas.List.{at_drop_more, at_drop_all, take_all}
 use Rattle.std.proofs.lemmas.Bool.{true≢false, false≢true}
-use Rattle.server_rules.specs.declared.table.JobEntry.{JobEntry}
-use Rattle.server_rules.specs.declared.table.DirtyPage.{DirtyPage}
-use Rattle.server_rules.specs.Tables.{Jobs, Dirty, find_job, find_page, holds_page, held_by_another, least_from, least_start}
+use Rattle.rules.specs.declared.table.JobEntry.{JobEntry}
+use Rattle.rules.specs.declared.table.DirtyPage.{DirtyPage}
+use Rattle.rules.specs.Tables.{Jobs, Dirty, find_job, find_page, holds_page, held_by_another, least_from, least_start}
 
 -- an element that decides nothing
 pub goes_on : {X Y : Type 0} (F : List X → Y) (xs : List X) (i : ℕ) (d : X) → i < length xs → F xs ≡ F (drop i xs)

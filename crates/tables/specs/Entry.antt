@@ -1,7 +1,7 @@
 -- What a change of a job does to one entry. Assumes nothing.
 use Rattle.std.specs.Prelude.{ℕ, true, cond, [], ◌==◌, slice_index_or, slice_set}
-use Rattle.server_rules.specs.declared.table.JobEntry.{JobEntry}
-use Rattle.server_rules.specs.Tables.{Jobs}
+use Rattle.rules.specs.declared.table.JobEntry.{JobEntry}
+use Rattle.rules.specs.Tables.{Jobs}
 
 abbrev pub its_next : ℕ → ℕ → JobEntry → JobEntry
 its_next j n x = cond (x.job == j) (record { job = x.job; next = n; holds = x.holds }) x

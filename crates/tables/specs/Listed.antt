@@ -1,6 +1,6 @@
 -- What the tables list. Assumes nothing.
 use Rattle.std.specs.Prelude.{vec_items}
-use Rattle.server_rules.specs.Tables.{Jobs, Dirty}
+use Rattle.rules.specs.Tables.{Jobs, Dirty}
 use Rattle.tables.specs.declared.jobs.JobTable.{JobTable}
 use Rattle.tables.specs.declared.dirty.DirtyTable.{DirtyTable}
 

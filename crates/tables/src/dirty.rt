@@ -1,7 +1,7 @@
 // The dirty pages, at most 64, in the order in which they were entered. Their places are reserved when the table is made.
 ghost use Rattle.std.specs.Prelude.{◌≤◌, vec_len, vec_capacity};
 
-use server_rules::DirtyPage;
+use rules::DirtyPage;
 
 mod ask;
 mod change;

@@ -1,7 +1,7 @@
 // The open jobs, at most eight. Their places are reserved when the table is made, so that no call wants memory later.
 ghost use Rattle.std.specs.Prelude.{◌≤◌, vec_len, vec_capacity};
 
-use server_rules::JobEntry;
+use rules::JobEntry;
 
 mod ask;
 mod change;

@@ -1,12 +1,12 @@
 // Questions to the table of dirty pages.
 ghost use Rattle.std.specs.Prelude.{◌≡◌, ◌≤◌, length};
 ghost use Rattle.std.specs.Option.{option_map};
-ghost use Rattle.server_rules.specs.Tables.{find_page, least_from, least_start};
-ghost use Rattle.server_rules.specs.Restart.{is_due};
+ghost use Rattle.rules.specs.Tables.{find_page, least_from, least_start};
+ghost use Rattle.rules.specs.Restart.{is_due};
 ghost use Rattle.tables.specs.Listed.{dirty_in};
 
 use super::DirtyTable;
-use server_rules::DirtyPage;
+use rules::DirtyPage;
 
 impl DirtyTable {
     pub fn count(&self) -> usize

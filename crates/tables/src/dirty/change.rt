@@ -1,10 +1,10 @@
 // Making the table of dirty pages, and changing it.
 ghost use Rattle.std.specs.Prelude.{◌≡◌, ◌<◌, ◌≤◌, false, [], length, is_some, IfOk};
-ghost use Rattle.server_rules.specs.Tables.{find_page, with_dirty};
+ghost use Rattle.rules.specs.Tables.{find_page, with_dirty};
 ghost use Rattle.tables.specs.Listed.{dirty_in};
 
 use super::DirtyTable;
-use server_rules::DirtyPage;
+use rules::DirtyPage;
 use std::alloc::{AllocError, Global};
 
 impl DirtyTable {

@@ -1,11 +1,11 @@
 // Questions to the job table. Each goes over the entries from the first on, and stops where one decides.
 ghost use Rattle.std.specs.Prelude.{◌≡◌, ◌≤◌, not, ◌&&◌, length, ◌==◌};
-ghost use Rattle.server_rules.specs.Tables.{find_job, is_job, next_of, holds_page, held_by, held_by_another, is_held};
+ghost use Rattle.rules.specs.Tables.{find_job, is_job, next_of, holds_page, held_by, held_by_another, is_held};
 ghost use Rattle.tables.specs.Listed.{jobs_in};
 ghost use Rattle.std.specs.Option.{option_map};
 
 use super::JobTable;
-use server_rules::JobEntry;
+use rules::JobEntry;
 
 impl JobTable {
     pub fn count(&self) -> usize

@@ -1,10 +1,10 @@
 // Making the job table, and changing it.
 ghost use Rattle.std.specs.Prelude.{◌≡◌, ◌<◌, ◌≤◌, [], length, IfOk};
-ghost use Rattle.server_rules.specs.Tables.{entered, with_next, with_hold, without_job};
+ghost use Rattle.rules.specs.Tables.{entered, with_next, with_hold, without_job};
 ghost use Rattle.tables.specs.Listed.{jobs_in};
 
 use super::{Entries, JobTable};
-use server_rules::JobEntry;
+use rules::JobEntry;
 use std::alloc::{AllocError, Global};
 
 impl JobTable {

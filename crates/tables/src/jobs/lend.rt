@@ -5,12 +5,12 @@ ghost use Rattle.std.specs.List.{insert};
 ghost use Rattle.std.specs.Vec.{with_item};
 ghost use Rattle.std.specs.Option.{ghost_name_of as name_of};
 ghost use Rattle.tables.specs.contracts.jobs.Entries.{the_row};
-ghost use Rattle.server_rules.specs.contracts.table.JobEntry.{the_row as entry_row};
-ghost use Rattle.server_rules.specs.Tables.{entered, with_next, with_hold, without_job};
+ghost use Rattle.rules.specs.contracts.table.JobEntry.{the_row as entry_row};
+ghost use Rattle.rules.specs.Tables.{entered, with_next, with_hold, without_job};
 ghost use Rattle.tables.specs.Entry.{changed, its_next, its_hold};
 
 use super::Entries;
-use server_rules::JobEntry;
+use rules::JobEntry;
 
 impl Entries {
     // The entry at a place, lent to be changed.

@@ -1,4 +1,4 @@
-use Rattle.server_rules.specs.Tables.{find_page}
+use Rattle.rules.specs.Tables.{find_page}
 use Rattle.tables.proofs.Walking.{goes_on, stops, ends, page_here, other_page}
 use Rattle.tables.proofs.dirty.ask.find.Goals as goal
 

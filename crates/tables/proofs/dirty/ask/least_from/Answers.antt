@@ -1,5 +1,5 @@
 use Rattle.std.proofs.Common.{◌+◌, drop, sym, ap, ◌∙◌}
-use Rattle.server_rules.specs.Tables.{least_from}
+use Rattle.rules.specs.Tables.{least_from}
 use Rattle.std.proofs.lemmas.List.{at_drop_more, at_drop_all}
 use Rattle.tables.proofs.Walking.{no_page}
 use Rattle.tables.proofs.dirty.ask.least_from.Goals as goal

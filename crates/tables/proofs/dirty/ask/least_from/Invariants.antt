@@ -1,5 +1,5 @@
 use Rattle.std.proofs.Common.{◌≡◌, drop}
-use Rattle.server_rules.specs.Tables.{least_from}
+use Rattle.rules.specs.Tables.{least_from}
 use Rattle.tables.proofs.dirty.ask.least_from.Given as goal
 
 abbrev pub invariant-loop-entry : goal.invariant-loop-entry

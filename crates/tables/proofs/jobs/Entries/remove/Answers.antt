@@ -1,5 +1,5 @@
 use Rattle.std.proofs.Common.{◌<◌, length, vec_items, refl, ◌∙◌, arith}
-use Rattle.server_rules.specs.Tables.{without_job}
+use Rattle.rules.specs.Tables.{without_job}
 use Rattle.tables.specs.Entry.{no_entry}
 use Rattle.tables.proofs.Changing.{taken_out, passed_over, all_changed, that_job, other_job, job_read, job_not_read}
 use Rattle.tables.proofs.jobs.Entries.remove.Goals as goal

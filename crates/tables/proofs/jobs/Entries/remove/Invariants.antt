@@ -1,5 +1,5 @@
 use Rattle.std.proofs.Common.{◌≡◌, ◌-◌, ◌≤◌, ◌++◌, take, drop, vec_items, vec_len, vec_capacity}
-use Rattle.server_rules.specs.Tables.{without_job}
+use Rattle.rules.specs.Tables.{without_job}
 use Rattle.tables.proofs.jobs.Entries.remove.Given as goal
 
 -- the entries before place i are of other jobs

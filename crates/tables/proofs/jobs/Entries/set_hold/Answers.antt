@@ -1,5 +1,5 @@
 use Rattle.std.proofs.Common.{refl, ◌∙◌, arith}
-use Rattle.server_rules.specs.Tables.{with_hold}
+use Rattle.rules.specs.Tables.{with_hold}
 use Rattle.tables.specs.Entry.{its_hold, no_entry}
 use Rattle.tables.proofs.Changing.{one_more, all_changed}
 use Rattle.tables.proofs.jobs.Entries.set_hold.Goals as goal

@@ -1,5 +1,5 @@
 use Rattle.std.proofs.Common.{◌≡◌, ◌++◌, take, drop, vec_items, vec_len, vec_capacity}
-use Rattle.server_rules.specs.Tables.{with_hold}
+use Rattle.rules.specs.Tables.{with_hold}
 use Rattle.tables.proofs.jobs.Entries.set_hold.Given as goal
 
 -- the entries before place i are changed

@@ -1,4 +1,4 @@
-use Rattle.server_rules.specs.Tables.{find_job}
+use Rattle.rules.specs.Tables.{find_job}
 use Rattle.tables.proofs.Walking.{goes_on, stops, ends, found_here, not_here}
 use Rattle.tables.proofs.jobs.ask.find.Goals as goal
 

@@ -1,5 +1,5 @@
 use Rattle.std.proofs.Common.{◌≡◌, drop}
-use Rattle.server_rules.specs.Tables.{find_job}
+use Rattle.rules.specs.Tables.{find_job}
 use Rattle.tables.proofs.jobs.ask.find.Given as goal
 
 abbrev pub invariant-loop-entry : goal.invariant-loop-entry

@@ -1,5 +1,5 @@
 use Rattle.std.proofs.Common.{sym, ◌∙◌}
-use Rattle.server_rules.specs.Tables.{held_by}
+use Rattle.rules.specs.Tables.{held_by}
 use Rattle.tables.proofs.Walking.{goes_on, stops, ends, or_decides, or_passes}
 use Rattle.tables.proofs.jobs.ask.held_by.Goals as goal
 

@@ -1,5 +1,5 @@
 use Rattle.std.proofs.Common.{get_or, sym, ◌∙◌}
-use Rattle.server_rules.specs.Tables.{held_by_another}
+use Rattle.rules.specs.Tables.{held_by_another}
 use Rattle.tables.proofs.Walking.{goes_on, stops, ends, another_decides, another_passes, no_entry}
 use Rattle.tables.proofs.jobs.ask.held_by_another.Goals as goal
 

@@ -1,5 +1,5 @@
 use Rattle.std.proofs.Common.{◌≡◌, drop}
-use Rattle.server_rules.specs.Tables.{held_by_another}
+use Rattle.rules.specs.Tables.{held_by_another}
 use Rattle.tables.proofs.jobs.ask.held_by_another.Given as goal
 
 abbrev pub invariant-loop-entry : goal.invariant-loop-entry

@@ -1,5 +1,5 @@
 use Rattle.std.proofs.Common.{sym, ◌∙◌}
-use Rattle.server_rules.specs.Tables.{is_held}
+use Rattle.rules.specs.Tables.{is_held}
 use Rattle.tables.proofs.Walking.{goes_on, stops, ends, or_decides, or_passes}
 use Rattle.tables.proofs.jobs.ask.is_held.Goals as goal
 

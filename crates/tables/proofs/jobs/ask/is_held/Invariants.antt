@@ -1,5 +1,5 @@
 use Rattle.std.proofs.Common.{◌≡◌, drop}
-use Rattle.server_rules.specs.Tables.{is_held}
+use Rattle.rules.specs.Tables.{is_held}
 use Rattle.tables.proofs.jobs.ask.is_held.Given as goal
 
 abbrev pub invariant-loop-entry : goal.invariant-loop-entry

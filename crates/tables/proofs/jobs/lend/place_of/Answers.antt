@@ -1,5 +1,5 @@
 use Rattle.std.proofs.Common.{◌++◌, take, ap, ◌∙◌, arith, rules}
-use Rattle.server_rules.specs.Tables.{entered}
+use Rattle.rules.specs.Tables.{entered}
 use Rattle.tables.specs.Entry.{no_entry}
 use Rattle.tables.proofs.Changing.{before_this, after_this, passed_over, at_the_end}
 use Rattle.tables.proofs.jobs.lend.place_of.Goals as goal
