@@ -8,7 +8,6 @@ mod owners;
 mod pages;
 mod slots;
 
-use device::LogStore;
 pub use owners::write_in_memory;
 pub use pages::battery_pages;
 pub use slots::battery_log;

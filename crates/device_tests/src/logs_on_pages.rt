@@ -1,7 +1,7 @@
 // A log on pages: what pages of any bytes say, and what a loss of power leaves.
 use crate::counting::Counting;
 use battery::{PowerCut, battery_pages};
-use device::{LogFault, LogStore, PageStore};
+use device::{LogFault, LogStore};
 use paged_log::PagedLog;
 use span::Span;
 

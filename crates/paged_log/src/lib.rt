@@ -19,8 +19,6 @@ mod page;
 mod put;
 mod store;
 
-use device::LogStore;
-
 #[derive(Drop)]
 pub struct PagedLog<P> {
     pages: P,

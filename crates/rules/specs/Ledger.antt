@@ -9,7 +9,7 @@ pub record Entry (C : Type 0) : Type 0 where
   pub page : ℕ
   pub change : C
 
--- the accepted records, the newest first; the jobs whose commit was accepted; those whose commit lost power
+-- the accepted records, the newest first; the jobs whose commit was accepted, or turned out to stand; those whose commit lost power
 pub record Ledger (C : Type 0) : Type 0 where
   pub entries : List (Entry C)
   pub kept : List ℕ

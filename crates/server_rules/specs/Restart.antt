@@ -1,5 +1,5 @@
 -- The restart: analysis, redo and undo, each as its plan. Assumes nothing.
-use Rattle.std.specs.Prelude.{ℕ, zero, suc, pred, min, Bool, true, false, cond, ◌&&◌, leb, List, [], ◌∷◌, map, length, is_some, Some, None, Ok, Err, Option, Result, ◌==◌, nat_le, nat_lt, slice_set}
+use Rattle.std.specs.Prelude.{ℕ, zero, suc, pred, min, Bool, true, false, cond, ◌&&◌, List, [], ◌∷◌, map, length, is_some, Some, None, Ok, Err, Option, Result, ◌==◌, nat_le, nat_lt, slice_set}
 use Rattle.std.specs.Option.{unwrap_or, option_map}
 use Rattle.format.specs.declared.page.Page.{Page}
 use Rattle.format.specs.declared.slot.Slot.{Slot}
@@ -107,7 +107,7 @@ pub record Replay : Type 0 where
 
 -- a page is in the table and its start is not after this slot
 abbrev pub is_due : ℕ → ℕ → Dirty → Bool
-is_due p n dirty = unwrap_or (option_map (λ e. leb e.start n) (find_page p dirty)) false
+is_due p n dirty = unwrap_or (option_map (λ e. nat_le e.start n) (find_page p dirty)) false
 
 -- 16: no stored page is ahead of the log
 abbrev pub none_ahead : ℕ → List Page → Bool
