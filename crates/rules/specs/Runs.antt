@@ -94,7 +94,7 @@ module _ {C : Type 0} (m : Meaning C) where
   told_service c (Ok a) h = accepted c h
   told_service c (Err why) h = denied c why h
 
-  -- analysis settles the doubtful jobs as soon as it has powered-on the power, and so unless the sizes are out of range
+  -- analysis settles the doubtful jobs as soon as it has powered the log on, and so unless the sizes are out of range
   abbrev pub resolved : Refusal → World → Ledger C → Ledger C
   resolved why w h = cond (number_of why == 1) h (settled (whole m w.devices) h)
 

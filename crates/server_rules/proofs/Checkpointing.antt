@@ -167,7 +167,7 @@ module _ {C : Type 0} (m : Meaning C) (M : Log C) where
       go (Some s) ih = ap (gathers (page_entries m M (suc p) bs)) (page_step js D p s (free p (omega arith))) ∙ (ih (D ++ entry_at p s ∷ []) (free_after s)
           ∙ ap (λ (x : Dirty). Ok (tables js x)) (append_assoc D (entry_at p s ∷ []) (dirty_from (suc p) bs)))
 
-  -- every entry's start is one that first-lacked gave
+  -- every entry's start is one that first_lacked gave
   positive_from : (lrcs : ℕ → ℕ) (p : ℕ) (bs : List (List ℕ)) → Listed lrcs p bs → ((q s : ℕ) → first_lacked q (lrcs q) M ≡ Some s → 1 ≤ s) → Positive (dirty_from p bs)
   positive_from lrcs p [] l some x i = elim i [ ]
   positive_from lrcs p (b ∷ bs) l some x i = go (first_lacked p (number_at b 0) M) (ap (λ (n : ℕ). first_lacked p n M) l.0) i (positive_from lrcs (suc p) bs l.1 some x)

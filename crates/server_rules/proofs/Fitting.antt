@@ -21,7 +21,7 @@ use Rattle.format.specs.Pages.{page_bytes, page_of, blank_page}
 use Rattle.format.specs.Slots.{Sized, read_slot, slot_bytes, slot_fields, slot_fits}
 use Rattle.format.proofs.Encoding.{written_reads}
 use Rattle.format.proofs.Numbers.{bytes_spelled, number_small}
-use Rattle.format.proofs.Paged.{page_reads, page_written as page-again}
+use Rattle.format.proofs.Paged.{page_reads, page_written as page_again}
 use Rattle.device.specs.declared.log_store.LogFault.{LogFault}
 use Rattle.device.specs.LogStores.{LogModel}
 use Rattle.recovery_log.specs.Log.{Log, new_number, is_open, opens, next, next_by, Numbered, rest, pending, pending_by}
@@ -216,7 +216,7 @@ pub page_written : (p : Page) → p.lrc < 2 ^ 32 → Content p.content → page_
 page_written p few h = page_reads p few
 
 pub bytes_paged : (b : List ℕ) → Bytes 256 b → page_bytes (page_of b) ≡ b
-bytes_paged b h = page-again b h
+bytes_paged b h = page_again b h
 
 -- what 256 bytes hold is a page's content and an LRC of 32 bits
 pub content_of : (b : List ℕ) → Bytes 256 b → Content (page_of b).content

@@ -10,7 +10,7 @@ use Rattle.format.specs.Slots.{slot_bytes}
 use Rattle.device.specs.declared.log_store.LogFault.{LogFault}
 use Rattle.device.specs.declared.log_store.LogFault.TheVariants.{PowerLost}
 use Rattle.device.specs.declared.page_store.PageFault.{PageFault}
-use Rattle.device.specs.declared.page_store.PageFault.TheVariants as page-fault
+use Rattle.device.specs.declared.page_store.PageFault.TheVariants as page_fault
 use Rattle.device.specs.LogStores.{LogModel}
 use Rattle.device.specs.PageStores.{PageModel, PageWritten}
 use Rattle.recovery_log.specs.Log.{Log}
@@ -244,8 +244,8 @@ module _ {C : Type 0} (m : Meaning C) (law : Lawful m) where
   log_lost : (f : LogFault) (n : ℕ) → ◌≡◌ {A = Result (Unit {0}) LogFault} (Err f) (Err (PowerLost n)) → number_of (refusal_of_log f) ≡ 17
   log_lost f n q = let e : f ≡ PowerLost n = cc in ap (λ (x : LogFault). number_of (refusal_of_log x)) e
 
-  page_lost : (f : PageFault) (n : ℕ) → ◌≡◌ {A = Result (Unit {0}) PageFault} (Err f) (Err (page-fault.PowerLost n)) → number_of (refusal_of_page f) ≡ 17
-  page_lost f n q = let e : f ≡ page-fault.PowerLost n = cc in ap (λ (x : PageFault). number_of (refusal_of_page x)) e
+  page_lost : (f : PageFault) (n : ℕ) → ◌≡◌ {A = Result (Unit {0}) PageFault} (Err f) (Err (page_fault.PowerLost n)) → number_of (refusal_of_page f) ≡ 17
+  page_lost f n q = let e : f ≡ page_fault.PowerLost n = cc in ap (λ (x : PageFault). number_of (refusal_of_page x)) e
 
   -- a log with room is not full
   append_lost : (h : Ledger C) (d : Devices) (s : Slot C) (f : LogFault) (l : LogModel) → SafeAppend m h d s → AppendOutcome m d (slot_bytes m s) (Err f) l

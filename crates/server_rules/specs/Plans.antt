@@ -8,12 +8,12 @@ use Rattle.format.specs.Changes.{Meaning}
 use Rattle.format.specs.Pages.{page_bytes}
 use Rattle.format.specs.Slots.{slot_bytes}
 use Rattle.device.specs.declared.page_store.PageFault.{PageFault}
-use Rattle.device.specs.declared.page_store.PageFault.TheVariants as page-fault
+use Rattle.device.specs.declared.page_store.PageFault.TheVariants as page_fault
 use Rattle.device.specs.declared.log_store.LogFault.{LogFault}
-use Rattle.device.specs.declared.log_store.LogFault.TheVariants as log-fault
-use Rattle.device.specs.PageStores as page-store
+use Rattle.device.specs.declared.log_store.LogFault.TheVariants as log_fault
+use Rattle.device.specs.PageStores as page_store
 use Rattle.device.specs.PageStores.{PageModel, PageWritten}
-use Rattle.device.specs.LogStores as log-store
+use Rattle.device.specs.LogStores as log_store
 use Rattle.device.specs.LogStores.{LogModel, SlotAppended, LogForced}
 use Rattle.rules.specs.declared.refusal.Refusal.{Refusal}
 use Rattle.rules.specs.declared.refusal.Refusal.TheVariants.{PageOutside, LogFull, LogUnreadable, PowerLost}
@@ -36,13 +36,13 @@ pub data Plan (C A : Type 0) : Type 0 where
 
 -- what a fault of a device is to the server's caller; a plan asks for no page and no slot that is not there
 abbrev pub refusal_of_page : PageFault → Refusal
-refusal_of_page (page-fault.PowerLost p) = PowerLost device.Pages p
-refusal_of_page page-fault.Outside = PageOutside
+refusal_of_page (page_fault.PowerLost p) = PowerLost device.Pages p
+refusal_of_page page_fault.Outside = PageOutside
 
 abbrev pub refusal_of_log : LogFault → Refusal
-refusal_of_log (log-fault.PowerLost n) = PowerLost device.Log n
-refusal_of_log log-fault.Outside = LogUnreadable
-refusal_of_log log-fault.Full = LogFull
+refusal_of_log (log_fault.PowerLost n) = PowerLost device.Log n
+refusal_of_log log_fault.Outside = LogUnreadable
+refusal_of_log log_fault.Full = LogFull
 
 abbrev pub with_pages : Devices → PageModel → Devices
 with_pages d p = record { pages = p; log = d.log }
@@ -52,7 +52,7 @@ with_log d l = record { pages = d.pages; log = l }
 
 -- both devices have power again; the log keeps its forced slots
 abbrev pub powered_on : Devices → Devices
-powered_on d = record { pages = page-store.powered_on d.pages; log = log-store.powered_on d.log }
+powered_on d = record { pages = page_store.powered_on d.pages; log = log_store.powered_on d.log }
 
 module _ {C : Type 0} (m : Meaning C) where
   -- an operation is done
