@@ -3,7 +3,7 @@ ghost use Rattle.std.specs.Prelude.{◌≡◌};
 ghost use Rattle.device.specs.LogStores.{LogModel, SoundLog, LengthRead, SlotRead, SlotAppended, LogForced, powered_on};
 
 // Without power every call answers `PowerLost`, but for the capacity, whether there is power, and to power on.
-#[derive(Clone, Copy)]
+#[derive(Clone, Copy, Debug, PartialEq, Eq)]
 pub enum LogFault {
     // There was no power at this slot, or it was lost there: at an append the slot to come, at a force the last, at the length 0.
     PowerLost(u32),

@@ -3,7 +3,7 @@ ghost use Rattle.std.specs.Prelude.{◌≡◌, length};
 ghost use Rattle.device.specs.PageStores.{PageModel, SoundPages, PageRead, PageWritten, powered_on};
 
 // Without power every call answers `PowerLost`, but for the size, whether there is power, and to power on.
-#[derive(Clone, Copy)]
+#[derive(Clone, Copy, Debug, PartialEq, Eq)]
 pub enum PageFault {
     // There was no power at this page, or it was lost there.
     PowerLost(u32),
