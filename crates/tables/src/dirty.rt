@@ -1,7 +1,6 @@
 // The dirty pages, at most 64, in the order in which they were entered. Their places are reserved when the table is made.
-ghost use Rattle.std.specs.Prelude.{◌≤◌, vec_len, vec_capacity};
-
 use rules::DirtyPage;
+use std::marker::Model;
 
 mod ask;
 mod change;
@@ -9,6 +8,16 @@ mod change;
 #[derive(Drop)]
 pub struct DirtyTable {
     list: Vec<DirtyPage>,
-    ghost few: { vec_len list ≤ 64 },
-    ghost room: { 64 ≤ vec_capacity list },
+}
+
+// Callers see the entries.
+impl Model for DirtyTable {
+    ghost use Rattle.rules.specs.Tables.{Dirty};
+    ghost use Rattle.tables.specs.Places.{HasPlaces};
+
+    ghost Value = { Dirty };
+
+    ghost view = { λ t. t.list.items };
+
+    ghost invariant = { λ t. HasPlaces 64 t.list };
 }

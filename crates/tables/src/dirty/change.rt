@@ -1,7 +1,6 @@
 // Making the table of dirty pages, and changing it.
-ghost use Rattle.std.specs.Prelude.{◌≡◌, ◌<◌, ◌≤◌, false, [], length, is_some, IfOk};
+ghost use Rattle.std.specs.Prelude.{◌≡◌, ◌<◌, false, [], length, is_some, IfOk};
 ghost use Rattle.rules.specs.Tables.{find_page, with_dirty};
-ghost use Rattle.tables.specs.Listed.{dirty_in};
 
 use super::DirtyTable;
 use rules::DirtyPage;
@@ -10,26 +9,25 @@ use std::alloc::{AllocError, Global};
 impl DirtyTable {
     // An empty table with its 64 places.
     pub fn new(heap: Global) -> Result<DirtyTable, AllocError>
-        ensures { IfOk result (λ t. dirty_in t ≡ []) }
+        ensures { IfOk result (λ t. t ≡ []) }
     {
         let list = Vec::with_capacity(heap, 64)?;
         Ok(DirtyTable { list })
     }
 
     pub fn clear(&mut self)
-        ensures { dirty_in self.new ≡ [] }
+        ensures { self.new ≡ [] }
     {
         self.list.clear();
     }
 
     // A page that is in the table keeps its start.
     pub fn enter(&mut self, page: u8, start: u32)
-        requires { is_some (find_page page (dirty_in self.old)) ≡ false → length (dirty_in self.old) < 64 }
-        ensures { dirty_in self.new ≡ with_dirty page start (dirty_in self.old) }
+        requires { is_some (find_page page self.old) ≡ false → length self.old < 64 }
+        ensures { self.new ≡ with_dirty page start self.old }
     {
-        if self.find_page(page).is_some() {
-            return;
+        if self.find_page(page).is_none() {
+            self.list.push_reserved(DirtyPage { page, start });
         }
-        self.list.push_reserved(DirtyPage { page, start });
     }
 }

@@ -1,6 +1,0 @@
-use Rattle.std.proofs.Common.{◌≡◌, drop}
-use Rattle.rules.specs.Tables.{held_by}
-use Rattle.tables.proofs.jobs.ask.held_by.Given as goal
-
-abbrev pub invariant-loop-entry : goal.invariant-loop-entry
-invariant-loop-entry l = held_by l.job l.page l.list ≡ held_by l.job l.page (drop l.entry-index l.list)
