@@ -1,6 +1,11 @@
--- What a change of a job does to one entry. Assumes nothing.
-use Rattle.std.specs.Prelude.{ℕ, cond, ◌==◌}
+-- What a change makes of the entries of a job. Assumes nothing.
+use Rattle.std.specs.Prelude.{◌≡◌, ℕ, cond, ◌==◌}
+use Rattle.std.specs.Borrow.{MutBor}
 use Rattle.rules.specs.declared.table.JobEntry.{JobEntry}
+
+-- by what a call says of an entry before it and after, the call leaves f of the entry
+abbrev pub Makes : (MutBor JobEntry → Unit {0} → MutBor JobEntry → Type 0) → (JobEntry → JobEntry) → Type 0
+Makes call f = (x y : MutBor JobEntry) → call x tt y → y.now ≡ f x.now
 
 -- an entry of the job changed; any other stays
 abbrev pub of_job : ℕ → (JobEntry → JobEntry) → JobEntry → JobEntry

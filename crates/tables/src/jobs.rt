@@ -8,7 +8,7 @@ mod lend;
 
 // The list without the limits, so that an entry of it can be lent. A sorted Vec, since a map would want memory with each entry.
 #[derive(Drop)]
-pub(crate) struct Entries {
+struct Entries {
     list: Vec<JobEntry>,
 }
 

@@ -23,12 +23,14 @@ impl JobTable {
         self.entries.list.clear();
     }
 
-    // The entry goes to its place, ascending by job.
+    // The entry goes before the first of a higher job.
     pub fn enter(&mut self, entry: JobEntry)
         requires { length self.old < 8 }
         ensures { self.new ≡ entered entry self.old }
     {
-        self.entries.enter(entry);
+        let list = &mut self.entries.list;
+        let place = list.iter().position(|other| entry.job < other.job).unwrap_or(list.len());
+        let _ = list.insert(place, entry);
     }
 
     pub fn set_next(&mut self, job: u32, next: u32)
@@ -51,6 +53,6 @@ impl JobTable {
     pub fn remove(&mut self, job: u32)
         ensures { self.new ≡ without_job job self.old }
     {
-        self.entries.remove(job);
+        self.entries.list.retain(|entry| entry.job != job);
     }
 }
