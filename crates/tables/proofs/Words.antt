@@ -1,5 +1,5 @@
 -- The words of the tables in the words of the library.
-use Rattle.std.proofs.Common.{◌≡◌, ℕ, ◌+◌, min, Bool, true, false, cond, not, ◌&&◌, ◌||◌, eqb, ltb, List, [], ◌∷◌, map, refl, sym, ap, ◌∙◌, Some, eq-eqb, ne_eqb, ◌<◌, ◌++◌, length, take, drop, get_or, set, ◌≤◌, None, arith}
+use Rattle.std.proofs.Common.{◌≡◌, ℕ, ◌+◌, min, Bool, true, false, cond, not, ◌&&◌, ◌||◌, eqb, ltb, List, [], ◌∷◌, map, refl, ap, ◌∙◌, Some, eq-eqb, ne_eqb, ◌<◌, ◌++◌, length, take, drop, get_or, set, ◌≤◌, None, arith}
 use Rattle.std.specs.List.{find, filter, list_any, position_or_len, position, insert, reduce, fold}
 use Rattle.std.specs.Option.{unwrap_or}
 use native.Mathlib.Numerals.{one-add}

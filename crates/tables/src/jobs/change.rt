@@ -29,7 +29,11 @@ impl JobTable {
         ensures { self.new ≡ entered entry self.old }
     {
         let list = &mut self.entries.list;
-        let place = list.iter().position(|other| entry.job < other.job).unwrap_or(list.len());
+        let place = list
+            .iter()
+            .position(|other| entry.job < other.job)
+            .unwrap_or(list.len());
+        // Never refused: there is room for it.
         let _ = list.insert(place, entry);
     }
 

@@ -1,4 +1,4 @@
-use Rattle.std.proofs.Common.{◌≡◌, ◌<◌, length, ap, sym, ◌∙◌, arith, rules}
+use Rattle.std.proofs.Common.{◌<◌, length, ap, sym, ◌∙◌, arith, rules}
 use Rattle.tables.proofs.Words.{changed_more, changes_it, keeps_it}
 use Rattle.tables.proofs.jobs.Entries.change.Goals.{in-Some+then-entry-job, in-Some+else-entry-job, in_default}
 use Rattle.tables.proofs.jobs.Entries.change.Goals as goal

@@ -1,5 +1,4 @@
 use Rattle.std.proofs.Common.{◌≡◌, ◌++◌, take, drop, map, vec_len, vec_capacity}
-
 use Rattle.rules.specs.declared.table.JobEntry.{JobEntry}
 use Rattle.tables.specs.Entry.{Makes, of_job}
 use Rattle.tables.proofs.jobs.Entries.change.Given as goal
