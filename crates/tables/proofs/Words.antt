@@ -1,5 +1,5 @@
 -- The words of the tables in the words of the library.
-use Rattle.std.proofs.Common.{◌≡◌, ℕ, ◌+◌, min, Bool, true, false, cond, not, ◌&&◌, ◌||◌, eqb, ltb, List, [], ◌∷◌, map, refl, ap, ◌∙◌, Some, eq-eqb, ne_eqb, ◌<◌, ◌++◌, length, take, drop, get_or, set, ◌≤◌, None, arith}
+use Rattle.std.proofs.Common.{◌≡◌, ℕ, ◌+◌, min, Bool, true, false, cond, not, ◌&&◌, ◌||◌, eqb, ltb, List, [], ◌∷◌, map, refl, ap, ◌∙◌, Some, ◌<◌, ◌++◌, length, take, drop, get_or, set, ◌≤◌, None, arith}
 use Rattle.std.specs.List.{find, filter, list_any, position_or_len, position, insert, reduce, fold}
 use Rattle.std.specs.Option.{unwrap_or}
 use native.Mathlib.Numerals.{one-add}
@@ -57,12 +57,6 @@ least_start_is (x ∷ xs) = from x.start xs
     from : (n : ℕ) (xs : Dirty) → least_from n xs ≡ fold min n (map (λ x. x.start) xs)
     from n [] = refl
     from n (x ∷ xs) = from (min n x.start) xs
-
-pub changes_it : (j : ℕ) (f : JobEntry → JobEntry) (x : JobEntry) → x.job ≡ j → of_job j f x ≡ f x
-changes_it j f x e = rw (eq-eqb x.job j e)
-
-pub keeps_it : (j : ℕ) (f : JobEntry → JobEntry) (x : JobEntry) → (x.job ≡ j → ⊥) → of_job j f x ≡ x
-keeps_it j f x e = rw (ne_eqb x.job j e)
 
 -- one entry more is changed
 pub changed_more : (g : JobEntry → JobEntry) (xs ys : Jobs) (i : ℕ) (x y : JobEntry) → i < length xs → ys ≡ map g (take i xs) ++ drop i xs

@@ -40,18 +40,15 @@ impl JobTable {
     pub fn set_next(&mut self, job: u32, next: u32)
         ensures { self.new ≡ with_next job next self.old }
     {
-        self.entries.change(job, |entry| {
-            entry.next = next;
-        });
+        self.entries.change(job, |entry| entry.next = next);
     }
 
     pub fn hold(&mut self, job: u32, page: u32)
         requires { page < 64 }
         ensures { self.new ≡ with_hold job page self.old }
     {
-        self.entries.change(job, |entry| {
-            entry.holds[page as usize] = true;
-        });
+        self.entries
+            .change(job, |entry| entry.holds[page as usize] = true);
     }
 
     pub fn remove(&mut self, job: u32)
