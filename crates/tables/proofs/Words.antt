@@ -10,6 +10,7 @@ use Rattle.rules.specs.Tables.{Jobs, Dirty, entered, find_job, holds_page, held_
 use Rattle.std.proofs.lemmas.List.Edits.{map_over_more}
 use Rattle.tables.specs.Entry.{of_job}
 
+-- questions
 pub find_job_is : (j : ℕ) (xs : Jobs) → find_job j xs ≡ find (λ x. eqb x.job j) xs
 find_job_is j [] = refl
 find_job_is j (x ∷ xs) = ap (cond (eqb x.job j) (Some x)) (find_job_is j xs)
@@ -30,6 +31,19 @@ pub is_held_is : (p : ℕ) (xs : Jobs) → is_held p xs ≡ list_any (holds_page
 is_held_is p [] = refl
 is_held_is p (x ∷ xs) = ap (λ b. holds_page p x || b) (is_held_is p xs)
 
+pub find_page_is : (p : ℕ) (xs : Dirty) → find_page p xs ≡ find (λ x. eqb x.page p) xs
+find_page_is p [] = refl
+find_page_is p (x ∷ xs) = ap (cond (eqb x.page p) (Some x)) (find_page_is p xs)
+
+pub least_start_is : (xs : Dirty) → least_start xs ≡ unwrap_or (reduce min (map (λ x. x.start) xs)) 0
+least_start_is [] = refl
+least_start_is (x ∷ xs) = from x.start xs
+  where
+    from : (n : ℕ) (xs : Dirty) → least_from n xs ≡ fold min n (map (λ x. x.start) xs)
+    from n [] = refl
+    from n (x ∷ xs) = from (min n x.start) xs
+
+-- entries that leave, and the place of one that enters
 pub without_job_is : (j : ℕ) (xs : Jobs) → without_job j xs ≡ filter (λ x. not (eqb x.job j)) xs
 without_job_is j [] = refl
 without_job_is j (x ∷ xs) = ap (λ r. cond (eqb x.job j) r (x ∷ r)) (without_job_is j xs) ∙ turned (eqb x.job j) _ _
@@ -46,17 +60,12 @@ entered_is e (x ∷ xs) = here (ltb e.job x.job) (entered e xs) (position_or_len
     here true r n i = refl
     here false r n i = rw one-add (ap (λ r. x ∷ r) i)
 
-pub find_page_is : (p : ℕ) (xs : Dirty) → find_page p xs ≡ find (λ x. eqb x.page p) xs
-find_page_is p [] = refl
-find_page_is p (x ∷ xs) = ap (cond (eqb x.page p) (Some x)) (find_page_is p xs)
-
-pub least_start_is : (xs : Dirty) → least_start xs ≡ unwrap_or (reduce min (map (λ x. x.start) xs)) 0
-least_start_is [] = refl
-least_start_is (x ∷ xs) = from x.start xs
+-- the first place that passes, or the end
+pub first_place : {X : Type 0} (p : X → Bool) (xs : List X) → unwrap_or (position p xs) (length xs) ≡ position_or_len p xs
+first_place p xs = at (position_or_len p xs) (length xs) (prefix_len-le-length _ xs)
   where
-    from : (n : ℕ) (xs : Dirty) → least_from n xs ≡ fold min n (map (λ x. x.start) xs)
-    from n [] = refl
-    from n (x ∷ xs) = from (min n x.start) xs
+    at : (n l : ℕ) → n ≤ l → unwrap_or (cond (ltb n l) (Some n) None) l ≡ n
+    at n l h = grind (arith, nat_tests)
 
 -- one entry more is changed
 pub changed_more : (g : JobEntry → JobEntry) (xs ys : Jobs) (i : ℕ) (x y : JobEntry) → i < length xs → ys ≡ map g (take i xs) ++ drop i xs
@@ -77,10 +86,3 @@ with_next_is j n (x ∷ xs) = ap (λ r. of_job j (its_next n) x ∷ r) (with_nex
 pub with_hold_is : (j p : ℕ) (xs : Jobs) → with_hold j p xs ≡ map (of_job j (its_hold p)) xs
 with_hold_is j p [] = refl
 with_hold_is j p (x ∷ xs) = ap (λ r. of_job j (its_hold p) x ∷ r) (with_hold_is j p xs)
-
--- the first place that passes, or the end
-pub first_place : {X : Type 0} (p : X → Bool) (xs : List X) → unwrap_or (position p xs) (length xs) ≡ position_or_len p xs
-first_place p xs = at (position_or_len p xs) (length xs) (prefix_len-le-length _ xs)
-  where
-    at : (n l : ℕ) → n ≤ l → unwrap_or (cond (ltb n l) (Some n) None) l ≡ n
-    at n l h = grind (arith, nat_tests)

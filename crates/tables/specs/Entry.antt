@@ -3,7 +3,7 @@ use Rattle.std.specs.Prelude.{◌≡◌, ℕ, cond, ◌==◌}
 use Rattle.std.specs.Borrow.{MutBor}
 use Rattle.rules.specs.declared.table.JobEntry.{JobEntry}
 
--- by what a call says of an entry before it and after, the call leaves f of the entry
+-- what such a call leaves of an entry is f of it
 abbrev pub Makes : (MutBor JobEntry → Unit {0} → MutBor JobEntry → Type 0) → (JobEntry → JobEntry) → Type 0
 Makes call f = (x y : MutBor JobEntry) → call x tt y → y.now ≡ f x.now
 
