@@ -1,6 +1,6 @@
 // Scripted memory: what a loss of power leaves at each kind of operation.
 use device::{LogFault, LogStore, PageFault, PageStore};
-use script::{Choice, PowerPlan, Script};
+use script::{Choice, Loss, PowerPlan, Script};
 use scripted_log::ScriptedLog;
 use scripted_pages::ScriptedPages;
 use std::test::Fail;
@@ -30,18 +30,19 @@ impl<P: PageStore, L: LogStore> Devices<P, L> {
 fn a_write_lost_old_and_one_lost_new(rt: HostRuntime) -> Result<(), Fail> {
     let script = Script::new(rt.alloc())?;
     let mut pages = ScriptedPages::new(rt.alloc(), 2, script.handle()?)?;
-    script.set(PowerPlan::new(2, Choice::Old, 0));
-    assert!(rt; pages.write(0, &[1; 256]).is_ok());
-    assert!(rt; matches!(pages.write(1, &[2; 256]), Err(PageFault::PowerLost(1))));
-    assert!(rt; matches!(pages.read(0), Err(PageFault::PowerLost(0))));
+    script.set(PowerPlan::new(Loss::at(2, Choice::Old), 0));
+    assert_eq!(rt; pages.write(0, &[1; 256]), Ok(()));
+    assert_eq!(rt; pages.write(1, &[2; 256]), Err(PageFault::PowerLost(1)));
+    assert_eq!(rt; pages.read(0), Err(PageFault::PowerLost(0)));
     pages.power_on();
-    assert!(rt; pages.read(0).ok() == Some([1; 256]) && pages.read(1).ok() == Some([0; 256]));
-    script.set(PowerPlan::new(1, Choice::New, 0));
-    assert!(rt; matches!(pages.write(1, &[2; 256]), Err(PageFault::PowerLost(1))));
-    assert!(rt; pages.page(1) == Some(&[2; 256]));
-    assert!(rt; matches!(pages.write(2, &[2; 256]), Err(PageFault::PowerLost(2))));
+    assert_eq!(rt; pages.read(0), Ok([1; 256]));
+    assert_eq!(rt; pages.read(1), Ok([0; 256]));
+    script.set(PowerPlan::new(Loss::at(1, Choice::New), 0));
+    assert_eq!(rt; pages.write(1, &[2; 256]), Err(PageFault::PowerLost(1)));
+    assert_eq!(rt; pages.page(1), Some(&[2; 256]));
+    assert_eq!(rt; pages.write(2, &[2; 256]), Err(PageFault::PowerLost(2)));
     pages.power_on();
-    assert!(rt; matches!(pages.write(2, &[2; 256]), Err(PageFault::Outside)));
+    assert_eq!(rt; pages.write(2, &[2; 256]), Err(PageFault::Outside));
     assert_eq!(rt; script.plan().operations(), 1);
     Ok(())
 }
@@ -50,21 +51,23 @@ fn a_write_lost_old_and_one_lost_new(rt: HostRuntime) -> Result<(), Fail> {
 fn appends_lost_before_and_after_and_a_lost_force(rt: HostRuntime) -> Result<(), Fail> {
     let script = Script::new(rt.alloc())?;
     let mut log = ScriptedLog::new(rt.alloc(), 4096, script.handle()?)?;
-    script.set(PowerPlan::new(2, Choice::Before, 1));
-    assert!(rt; log.append(&[1; 60]).is_ok());
-    assert!(rt; matches!(log.append(&[2; 60]), Err(LogFault::PowerLost(2))));
+    script.set(PowerPlan::new(Loss::at(2, Choice::Before), 1));
+    assert_eq!(rt; log.append(&[1; 60]), Ok(()));
+    assert_eq!(rt; log.append(&[2; 60]), Err(LogFault::PowerLost(2)));
     assert_eq!(rt; (log.slots(), log.forced()), (1, 1));
     log.power_on();
-    script.set(PowerPlan::new(1, Choice::After, 5));
-    assert!(rt; matches!(log.append(&[2; 60]), Err(LogFault::PowerLost(2))));
+    script.set(PowerPlan::new(Loss::at(1, Choice::After), 5));
+    assert_eq!(rt; log.append(&[2; 60]), Err(LogFault::PowerLost(2)));
     assert_eq!(rt; (log.slots(), log.forced()), (2, 2));
     log.power_on();
-    script.set(PowerPlan::new(3, Choice::Count(1), 0));
-    assert!(rt; log.append(&[3; 60]).is_ok() && log.append(&[4; 60]).is_ok());
-    assert!(rt; matches!(log.force(), Err(LogFault::PowerLost(4))));
+    script.set(PowerPlan::new(Loss::at(3, Choice::Count(1)), 0));
+    assert_eq!(rt; log.append(&[3; 60]), Ok(()));
+    assert_eq!(rt; log.append(&[4; 60]), Ok(()));
+    assert_eq!(rt; log.force(), Err(LogFault::PowerLost(4)));
     assert_eq!(rt; (log.slots(), log.forced()), (4, 3));
     log.power_on();
-    assert!(rt; log.len().ok() == Some(3) && log.read(3).ok() == Some([3; 60]));
+    assert_eq!(rt; log.len(), Ok(3));
+    assert_eq!(rt; log.read(3), Ok([3; 60]));
     Ok(())
 }
 
@@ -74,13 +77,13 @@ fn one_count_over_both_devices(rt: HostRuntime) -> Result<(), Fail> {
     let pages = ScriptedPages::new(rt.alloc(), 2, script.handle()?)?;
     let log = ScriptedLog::new(rt.alloc(), 2, script.handle()?)?;
     let mut devices = Devices { pages, log };
-    script.set(PowerPlan::new(2, Choice::After, 1));
+    script.set(PowerPlan::new(Loss::at(2, Choice::After), 1));
     devices.write_append_force();
     assert_eq!(rt; script.plan().operations(), 2);
     assert!(rt; devices.pages.is_powered() && !devices.log.is_powered());
     assert_eq!(rt; (devices.log.slots(), devices.log.forced()), (1, 1));
     devices.power_on();
-    script.set(PowerPlan::new(0, Choice::Old, 0));
+    script.set(PowerPlan::new(None, 0));
     devices.write_append_force();
     assert_eq!(rt; script.plan().operations(), 3);
     assert_eq!(rt; (devices.log.slots(), devices.log.forced()), (2, 2));

@@ -1,21 +1,37 @@
 -- Plans of lost power: what an operation does to a plan, how each kind of operation reads a choice, and what it then leaves. Assumes nothing.
-use Rattle.std.specs.Prelude.{ℕ, ◌+◌, ◌-◌, ◌^◌, min, Bool, true, false, cond, List, length, Some, None, Ok, Err, Option, Result, ◌==◌}
+use Rattle.std.specs.Prelude.{ℕ, zero, suc, ◌+◌, ◌-◌, ◌^◌, min, Bool, true, false, cond, List, length, Some, None, Ok, Err, Option, Result, ◌==◌}
 use Rattle.device.specs.LogStores.{LogModel, state, with_slot, new_slot}
 use Rattle.device.specs.PageStores.{PageModel, with_page, without_power}
 use Rattle.script.specs.declared.plan.Choice.{Choice}
 use Rattle.script.specs.declared.plan.Choice.TheVariants.{Old, New, Before, After, Count}
+use Rattle.script.specs.declared.plan.Loss.{Loss}
 use Rattle.script.specs.declared.plan.PowerPlan.{PowerPlan}
 
-abbrev pub planned : ℕ → Choice → ℕ → PowerPlan
-planned at choice raise = record { countdown = at; choice = choice; raise = raise; operations = 0 }
+-- power is lost in the operation of this number, counted from 1; 0: in none
+abbrev pub lost_at : ℕ → Choice → Option Loss
+lost_at zero choice = None
+lost_at (suc after) choice = Some (record { after = after; choice = choice })
+
+abbrev pub planned : Option Loss → ℕ → PowerPlan
+planned loss raise = record { loss = loss; raise = raise; operations = 0 }
+
+-- one operation nearer; when it has come nothing more is lost
+abbrev pub nearer : Option Loss → Option Loss
+nearer None = None
+nearer (Some l) = lost_at l.after l.choice
 
 -- an operation more is counted, up to the largest number of 32 bits
 abbrev pub advanced : PowerPlan → PowerPlan
-advanced p = record { countdown = p.countdown - 1; choice = p.choice; raise = p.raise; operations = min (p.operations + 1) (2 ^ 32 - 1) }
+advanced p = record { loss = nearer p.loss; raise = p.raise; operations = min (p.operations + 1) (2 ^ 32 - 1) }
+
+-- what is lost in the next operation
+abbrev pub come : Option Loss → Option Choice
+come None = None
+come (Some l) = cond (l.after == 0) (Some l.choice) None
 
 -- the next operation loses power where its turn has come
 abbrev pub loss : PowerPlan → Option Choice
-loss p = cond (p.countdown == 1) (Some p.choice) None
+loss p = come p.loss
 
 -- with Old a lost write leaves the old page, else the new one
 abbrev pub keeps_old : Choice → Bool

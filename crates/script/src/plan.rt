@@ -1,9 +1,9 @@
-// A plan for the operations to come: at which of them power is lost, what that leaves, how far appends raise the forced count.
+// A plan for the operations to come: in which of them power is lost, what that leaves, how far appends raise the forced count.
 ghost use Rattle.std.specs.Prelude.{◌≡◌};
-ghost use Rattle.script.specs.ScriptedPlans.{planned, advanced, loss, keeps_old, stops_before, standing};
+ghost use Rattle.script.specs.ScriptedPlans.{lost_at, planned, advanced, loss, keeps_old, stops_before, standing};
 
 // What a loss of power leaves. Each kind of operation reads it in its own way, since a plan does not know which it will meet.
-#[derive(Clone, Copy)]
+#[derive(Clone, Copy, Debug, PartialEq, Eq)]
 pub enum Choice {
     // A write leaves the old page; with any other choice the new one.
     Old,
@@ -15,25 +15,39 @@ pub enum Choice {
     Count(u32),
 }
 
-// Counted are writes, appends and forces of both devices together, each where there is power, and the page or the room for the slot.
-#[derive(Clone, Copy)]
+// A loss of power to come. Counted are writes, appends and forces of both devices together, each where there is power, and the page or
+// the room for the slot.
+#[derive(Clone, Copy, Debug, PartialEq, Eq)]
+pub struct Loss {
+    // How many operations still succeed before the one in which power is lost.
+    pub after: u32,
+    pub choice: Choice,
+}
+
+impl Loss {
+    // Power is lost in the operation of this number, from now on and from 1; 0: in none.
+    pub fn at(number: u32, choice: Choice) -> Option<Loss>
+        ensures { result ≡ lost_at number choice }
+    {
+        let after = number.checked_sub(1)?;
+        Some(Loss { after, choice })
+    }
+}
+
+#[derive(Clone, Copy, Debug, PartialEq, Eq)]
 pub struct PowerPlan {
-    // Power is lost at the operation of this number, from now on and from 1; 0: at none.
-    countdown: u32,
-    choice: Choice,
+    loss: Option<Loss>,
     raise: u32,
     operations: u32,
 }
 
 impl PowerPlan {
-    // Power is lost at the operation of the number `countdown`, at none where it is 0.
     // An append that puts its slot raises the forced count by `raise`, at most to the length.
-    pub fn new(countdown: u32, choice: Choice, raise: u32) -> PowerPlan
-        ensures { result ≡ planned countdown choice raise }
+    pub fn new(loss: Option<Loss>, raise: u32) -> PowerPlan
+        ensures { result ≡ planned loss raise }
     {
         PowerPlan {
-            countdown,
-            choice,
+            loss,
             raise,
             operations: 0,
         }
@@ -57,16 +71,14 @@ impl PowerPlan {
         ensures after { self.new ≡ advanced self.old }
         ensures loss { result ≡ loss self.old }
     {
-        let before = *self;
-        *self = PowerPlan {
-            countdown: before.countdown.saturating_sub(1),
-            operations: before.operations.saturating_add(1),
-            ..before
-        };
-        if before.countdown == 1 {
-            Some(before.choice)
-        } else {
-            None
+        self.operations = self.operations.saturating_add(1);
+        let loss = self.loss.take()?;
+        match loss.after.checked_sub(1) {
+            Some(after) => {
+                self.loss = Some(Loss { after, ..loss });
+                None
+            }
+            None => Some(loss.choice),
         }
     }
 }

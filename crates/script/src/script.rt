@@ -13,7 +13,7 @@ pub struct Script {
 impl Script {
     // A script by which power is never lost and appends leave the forced count.
     pub fn new(heap: Global) -> Result<Script, AllocError> {
-        let plan = Rc::new(heap, Cell::new(PowerPlan::new(0, Choice::New, 0)))?;
+        let plan = Rc::new(heap, Cell::new(PowerPlan::new(None, 0)))?;
         Ok(Script { plan })
     }
 

@@ -1,2 +1,1 @@
 pub mod ScriptedPages
-pub mod ScriptedTools

@@ -1,7 +1,7 @@
 // A page store in owned memory whose power fails where its script says.
 #![tactic(auto)]
 
-ghost use Rattle.std.specs.Prelude.{◌≡◌, ℕ, ◌<◌, ◌≤◌, [], length, vec_len, slice_index, slice_index_or};
+ghost use Rattle.device.specs.PageStores.{SoundPages};
 
 use script::Script;
 
@@ -13,7 +13,6 @@ pub struct ScriptedPages {
     pages: Vec<[u8; 256]>,
     powered: bool,
     script: Script,
-    ghost few: { vec_len pages ≤ 65536 },
-    ghost sizes: { (p : ℕ) → p < vec_len pages → length (slice_index_or pages.items p []) ≡ 256 },
-    ghost small: { (p k : ℕ) → p < vec_len pages → slice_index (slice_index_or pages.items p []) k < 256 },
+    // What the interface says of every value of the type; of every model, which an `impl Model` would be asked for, it does not hold.
+    ghost sound: { SoundPages (record { pages = pages.items; powered = powered }) },
 }

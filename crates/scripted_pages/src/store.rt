@@ -1,7 +1,7 @@
 // Scripted pages as a page store.
-ghost use Rattle.std.specs.Prelude.{◌≡◌, ◌<◌, true, vec_len};
+ghost use Rattle.std.specs.Prelude.{◌≡◌, ◌<◌, vec_len};
 ghost use Rattle.script.specs.ScriptedPlans.{answered, left_by_write};
-ghost use Rattle.scripted_pages.specs.ScriptedPages.{model, sound};
+ghost use Rattle.scripted_pages.specs.ScriptedPages.{model};
 
 use crate::ScriptedPages;
 use device::{PageFault, PageStore};
@@ -10,7 +10,7 @@ use script::Choice;
 impl PageStore for ScriptedPages {
     ghost model = { model };
 
-    ghost sound = { sound };
+    ghost sound = { λ s. s.sound };
 
     fn size(&self) -> u32 {
         self.pages.len() as u32
@@ -24,17 +24,17 @@ impl PageStore for ScriptedPages {
         if !self.powered {
             return Err(PageFault::PowerLost(page));
         }
-        match self.pages.get(page as usize) {
-            Some(bytes) => Ok(*bytes),
-            None => Err(PageFault::Outside),
-        }
+        self.pages
+            .get(page as usize)
+            .copied()
+            .ok_or(PageFault::Outside)
     }
 
     fn write(&mut self, page: u32, bytes: &[u8; 256]) -> Result<(), PageFault> {
         if !self.powered {
             return Err(PageFault::PowerLost(page));
         }
-        if page as usize >= self.pages.len() {
+        if page >= self.size() {
             return Err(PageFault::Outside);
         }
         let loss = self.script.operation();
@@ -47,25 +47,26 @@ impl PageStore for ScriptedPages {
 }
 
 impl ScriptedPages {
-    // A write of a page that is there, while there is power; with a loss, what that leaves is chosen.
+    // A write of a page that is there; with a loss, what that leaves is chosen.
     fn write_or_lose(
         &mut self,
         page: u32,
         bytes: &[u8; 256],
         loss: Option<Choice>,
     ) -> Result<(), PageFault>
-        requires { (page < vec_len self.old.pages) × (self.old.powered ≡ true) }
+        requires { page < vec_len self.old.pages }
         ensures value { result ≡ answered loss (PageFault.PowerLost page) }
         ensures after { model self.new ≡ left_by_write loss (model self.old) page bytes.now }
     {
-        let Some(choice) = loss else {
-            self.pages[page as usize] = *bytes;
-            return Ok(());
-        };
-        self.powered = false;
-        if !choice.keeps_old() {
+        if loss.is_none_or(|choice| !choice.keeps_old()) {
             self.pages[page as usize] = *bytes;
         }
-        Err(PageFault::PowerLost(page))
+        match loss {
+            None => Ok(()),
+            Some(_) => {
+                self.powered = false;
+                Err(PageFault::PowerLost(page))
+            }
+        }
     }
 }

@@ -1,11 +1,11 @@
 // Making scripted pages, and what tools do with them beside the interface, whether or not there is power.
-ghost use Rattle.std.specs.Prelude.{◌≡◌, min, true, length, replicate, IfOk, nat_lt};
-ghost use Rattle.std.specs.Option.{option_map};
+ghost use Rattle.std.specs.Prelude.{◌≡◌, min, true, length, replicate, Ok, Err, is_ok, IfOk, if◌then◌else◌, nat_lt, slice_get};
+ghost use Rattle.std.specs.Option.{option_copied};
 ghost use Rattle.device.specs.PageStores.{with_page, without_power};
 ghost use Rattle.scripted_pages.specs.ScriptedPages.{model};
-ghost use Rattle.scripted_pages.specs.ScriptedTools.{page_at};
 
 use crate::ScriptedPages;
+use device::PageFault;
 use script::Script;
 use std::alloc::{AllocError, Global};
 
@@ -26,21 +26,19 @@ impl ScriptedPages {
     }
 
     pub fn page(&self, page: u32) -> Option<&[u8; 256]>
-        ensures { option_map (λ x. x.now) result ≡ page_at (model self.now).pages page }
+        ensures { option_copied result ≡ slice_get (model self.now).pages page }
     {
         self.pages.get(page as usize)
     }
 
-    // False where there is no such page.
-    pub fn set_page(&mut self, page: u32, bytes: &[u8; 256]) -> bool
-        ensures inside { result ≡ nat_lt page (length (model self.old).pages) }
-        ensures after { model self.new ≡ with_page (model self.old) page bytes.now }
+    // Where there is no such page nothing changes.
+    pub fn set_page(&mut self, page: u32, bytes: &[u8; 256]) -> Result<(), PageFault>
+        ensures value { result ≡ (if nat_lt page (length (model self.old).pages) then Ok tt else Err PageFault.Outside) }
+        ensures after { model self.new ≡ (if is_ok result then with_page (model self.old) page bytes.now else model self.old) }
     {
-        if page as usize >= self.pages.len() {
-            return false;
-        }
-        self.pages[page as usize] = *bytes;
-        true
+        let place = self.pages.get_mut(page as usize).ok_or(PageFault::Outside)?;
+        *place = *bytes;
+        Ok(())
     }
 
     pub fn cut_power(&mut self)

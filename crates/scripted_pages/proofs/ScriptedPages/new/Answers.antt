@@ -1,24 +1,22 @@
-use Rattle.std.proofs.Common.{◌≡◌, ℕ, ◌≤◌, true, List, vec_items, vec_len, ap, ◌∙◌, arith}
-use Rattle.device.specs.PageStores.{PageModel}
-use Rattle.scripted_pages.proofs.ScriptedRows.{rows, grown_from_none, blank_size, blank_small}
+use Rattle.std.proofs.Common.{◌≡◌, ℕ, zero, suc, ◌<◌, ◌≤◌, true, List, [], get_or, replicate, refl, arith, lit<}
+use Rattle.std.proofs.lemmas.Grind.{common_steps}
+use Rattle.std.proofs.lemmas.List.{get_or-replicate, length-replicate}
+use Rattle.device.specs.PageStores.{SoundPages}
 use Rattle.scripted_pages.proofs.ScriptedPages.new.Goals as goal
 
-pub invariant_of-result : goal.invariant_of-result
-invariant_of-result c =
-    let v = c.resize.new.self in
-    let n = c.min.result in
-    let len = c.in_ok-resize.ensures.len in
-    let blank : vec_items v ≡ rows n 256 =
-    grown_from_none n _ 256 (vec_items c.new-pages.result) (vec_items v) c.in_ok-resize.ensures.items c.new-pages.ensures.items c.new-pages.ensures.len in
-    let few : vec_len v ≤ 65536 = omega (arith, c.min.ensures, len) in
-    record {
-      few = few;
-      sizes = λ p h. blank_size (vec_items v) n 256 blank p (omega (arith, len));
-      small = λ p k h. blank_small (vec_items v) n 256 blank p k (omega (arith, len));
-    }
+small_zeros : (w k : ℕ) → get_or (replicate w 0) k 0 < 256
+small_zeros zero k = lit< tt
+small_zeros (suc w) zero = lit< tt
+small_zeros (suc w) (suc k) = small_zeros w k
 
-pub returns : goal.returns
-returns c =
-    let blank : vec_items c.resize.new.self ≡ rows c.min.result 256 =
-    grown_from_none _ _ 256 (vec_items c.new-pages.result) (vec_items c.resize.new.self) c.in_ok-resize.ensures.items c.new-pages.ensures.items c.new-pages.ensures.len in
-    ap (λ (xs : List (List ℕ)). let m : PageModel = record { pages = xs; powered = true } in m) (blank ∙ ap (λ (n : ℕ). rows n 256) c.min.ensures)
+blank_sound : (n : ℕ) (page : List ℕ) (pages : List (List ℕ)) → page ≡ replicate 256 0 → pages ≡ replicate n page → n ≤ 65536
+    → SoundPages (record { pages = pages; powered = true })
+blank_sound n page pages blank e few = rw e (record {
+  few = omega (arith, length-replicate n page);
+  each = λ p h.
+      let lt : p < n = omega (arith, length-replicate n page) in
+      rw (get_or-replicate n p page [] lt, blank) (record { size = length-replicate {A = ℕ} 256 0; small = small_zeros 256 });
+})
+
+pub invariant_of-result : goal.invariant_of-result
+invariant_of-result c = record { sound = blank_sound c.min.result _ _ refl (grind (arith, common_steps)) (omega (arith, c.min.ensures)) }
