@@ -73,9 +73,9 @@ with_raise m slot raise powered = state m (with_slot m slot) (min (m.forced + ra
 
 -- what an append leaves where the capacity has room
 abbrev pub left_by_append : Option Choice → ℕ → LogModel → List ℕ → LogModel
-left_by_append None raise m slot = with_raise m slot raise true
+left_by_append None raise m slot = with_raise m slot raise m.powered
 left_by_append (Some c) raise m slot = cond (stops_before c) (state m m.slots m.forced false) (with_raise m slot raise false)
 
 abbrev pub left_by_force : Option Choice → LogModel → LogModel
-left_by_force None m = state m m.slots (length m.slots) true
+left_by_force None m = state m m.slots (length m.slots) m.powered
 left_by_force (Some c) m = state m m.slots (min (m.forced + standing c) (length m.slots)) false

@@ -1,13 +1,14 @@
 -- What tools read and set in the memory of a log store, by its number, whether or not there is power. Assumes nothing.
-use Rattle.std.specs.Prelude.{ℕ, pred, Bool, false, cond, ◌&&◌, List, [], length, Some, None, Option, nat_le, nat_lt, slice_index_or, slice_set}
+use Rattle.std.specs.Prelude.{ℕ, zero, suc, pred, Bool, false, List, None, Option, is_some, slice_get, slice_set}
 use Rattle.device.specs.LogStores.{LogModel, state, with_slot, new_slot}
 
 -- slots are numbered from 1 on
-abbrev pub has_slot : List (List ℕ) → ℕ → Bool
-has_slot slots n = nat_lt 0 n && nat_le n (length slots)
-
 abbrev pub slot_at : List (List ℕ) → ℕ → Option (List ℕ)
-slot_at slots n = cond (has_slot slots n) (Some (slice_index_or slots (pred n) [])) None
+slot_at slots zero = None
+slot_at slots (suc place) = slice_get slots place
+
+abbrev pub has_slot : List (List ℕ) → ℕ → Bool
+has_slot slots n = is_some (slot_at slots n)
 
 abbrev pub with_slot_set : LogModel → ℕ → List ℕ → LogModel
 with_slot_set m n slot = state m (slice_set m.slots (pred n) slot) m.forced m.powered

@@ -1,8 +1,8 @@
 // A scripted log as a log store.
-ghost use Rattle.std.specs.Prelude.{◌≡◌, ◌<◌, true, length, vec_len};
+ghost use Rattle.std.specs.Prelude.{◌≡◌, ◌<◌, length, vec_len, vec_capacity};
 ghost use Rattle.device.specs.LogStores.{new_slot};
 ghost use Rattle.script.specs.ScriptedPlans.{answered, with_raise, left_by_append, left_by_force};
-ghost use Rattle.scripted_log.specs.ScriptedLog.{model, sound};
+ghost use Rattle.scripted_log.specs.ScriptedLog.{model};
 
 use crate::ScriptedLog;
 use device::{LogFault, LogStore};
@@ -11,10 +11,10 @@ use script::Choice;
 impl LogStore for ScriptedLog {
     ghost model = { model };
 
-    ghost sound = { sound };
+    ghost sound = { λ s. s.sound };
 
     fn capacity(&self) -> u32 {
-        self.capacity
+        self.slots.capacity() as u32
     }
 
     fn is_powered(&self) -> bool {
@@ -32,10 +32,7 @@ impl LogStore for ScriptedLog {
         if !self.powered {
             return Err(LogFault::PowerLost(slot));
         }
-        if slot == 0 || slot > self.slots() {
-            return Err(LogFault::Outside);
-        }
-        Ok(self.slots[slot as usize - 1])
+        self.slot(slot).copied().ok_or(LogFault::Outside)
     }
 
     fn append(&mut self, bytes: &[u8; 60]) -> Result<(), LogFault> {
@@ -43,7 +40,7 @@ impl LogStore for ScriptedLog {
         if !self.powered {
             return Err(LogFault::PowerLost(last + 1));
         }
-        if last >= self.capacity {
+        if last >= self.capacity() {
             return Err(LogFault::Full);
         }
         let raise = self.script.plan().raise();
@@ -66,54 +63,55 @@ impl LogStore for ScriptedLog {
 }
 
 impl ScriptedLog {
-    // An append where there are power and room; with a loss, what that leaves is chosen.
+    // An append where there is room; with a loss, what that leaves is chosen.
     fn append_or_lose(
         &mut self,
         bytes: &[u8; 60],
         loss: Option<Choice>,
         raise: u32,
     ) -> Result<(), LogFault>
-        requires { (vec_len self.old.slots < self.old.capacity) × (self.old.powered ≡ true) }
+        requires { vec_len self.old.slots < vec_capacity self.old.slots }
         ensures value { result ≡ answered loss (LogFault.PowerLost (new_slot (model self.old))) }
         ensures after { model self.new ≡ left_by_append loss raise (model self.old) bytes.now }
     {
-        let last = self.slots();
-        let Some(choice) = loss else {
-            self.put_raised(bytes, raise);
-            return Ok(());
-        };
-        self.powered = false;
-        if !choice.stops_before() {
+        let fault = LogFault::PowerLost(self.slots() + 1);
+        if loss.is_none_or(|choice| !choice.stops_before()) {
             self.put_raised(bytes, raise);
         }
-        Err(LogFault::PowerLost(last + 1))
+        match loss {
+            None => Ok(()),
+            Some(_) => {
+                self.powered = false;
+                Err(fault)
+            }
+        }
     }
 
     // Puts a slot at the end and raises the forced count, at most to the length.
     pub(crate) fn put_raised(&mut self, bytes: &[u8; 60], raise: u32)
-        requires { vec_len self.old.slots < self.old.capacity }
+        requires { vec_len self.old.slots < vec_capacity self.old.slots }
         ensures { model self.new ≡ with_raise (model self.old) bytes.now raise self.old.powered }
     {
         self.slots.push_reserved(*bytes);
-        self.forced = self
-            .forced
-            .saturating_add(raise)
-            .min(self.slots.len() as u32);
+        self.forced = self.forced.saturating_add(raise).min(self.slots());
     }
 
-    // A force while there is power; with a loss, so many slots more become forced as are chosen.
+    // A force; with a loss, so many slots more become forced as are chosen.
     fn force_or_lose(&mut self, loss: Option<Choice>) -> Result<(), LogFault>
-        requires { self.old.powered ≡ true }
         ensures value { result ≡ answered loss (LogFault.PowerLost (length (model self.old).slots)) }
         ensures after { model self.new ≡ left_by_force loss (model self.old) }
     {
         let last = self.slots();
-        let Some(choice) = loss else {
-            self.forced = last;
-            return Ok(());
-        };
-        self.powered = false;
-        self.forced = self.forced.saturating_add(choice.standing()).min(last);
-        Err(LogFault::PowerLost(last))
+        match loss {
+            None => {
+                self.forced = last;
+                Ok(())
+            }
+            Some(choice) => {
+                self.powered = false;
+                self.forced = self.forced.saturating_add(choice.standing()).min(last);
+                Err(LogFault::PowerLost(last))
+            }
+        }
     }
 }

@@ -1,10 +1,11 @@
 // Making a scripted log, and what tools do with it beside the interface, whether or not there is power.
-ghost use Rattle.std.specs.Prelude.{◌≡◌, ◌-◌, ◌^◌, min, true, [], length, IfOk, if◌then◌else◌, nat_lt};
-ghost use Rattle.std.specs.Option.{option_map};
+ghost use Rattle.std.specs.Prelude.{◌≡◌, ◌-◌, ◌^◌, min, true, [], length, Ok, Err, is_ok, IfOk, if◌then◌else◌, nat_lt};
+ghost use Rattle.std.specs.Option.{option_copied};
 ghost use Rattle.scripted_log.specs.ScriptedLog.{model};
 ghost use Rattle.scripted_log.specs.ScriptedTools.{slot_at, has_slot, with_slot_set, with_slot_forced, without_power};
 
 use crate::ScriptedLog;
+use device::{LogFault, LogStore};
 use script::Script;
 use std::alloc::{AllocError, Global};
 
@@ -15,10 +16,8 @@ impl ScriptedLog {
     pub fn new(heap: Global, capacity: u32, script: Script) -> Result<ScriptedLog, AllocError>
         ensures { IfOk result (λ s. model s ≡ record { capacity = min capacity (2 ^ 32 - 2); slots = []; forced = 0; powered = true }) }
     {
-        let capacity = capacity.min(MOST_SLOTS);
-        let slots = Vec::with_capacity(heap, capacity as usize)?;
+        let slots = Vec::with_capacity(heap, capacity.min(MOST_SLOTS) as usize)?;
         Ok(ScriptedLog {
-            capacity,
             slots,
             forced: 0,
             powered: true,
@@ -41,36 +40,33 @@ impl ScriptedLog {
     }
 
     pub fn slot(&self, slot: u32) -> Option<&[u8; 60]>
-        ensures { option_map (λ x. x.now) result ≡ slot_at (model self.now).slots slot }
+        ensures { option_copied result ≡ slot_at (model self.now).slots slot }
     {
-        if slot == 0 {
-            return None;
-        }
-        self.slots.get(slot as usize - 1)
+        let place = slot.checked_sub(1)?;
+        self.slots.get(place as usize)
     }
 
-    // False where there is no such slot.
-    pub fn set_slot(&mut self, slot: u32, bytes: &[u8; 60]) -> bool
-        ensures inside { result ≡ has_slot (model self.old).slots slot }
-        ensures after { model self.new ≡ (if result then with_slot_set (model self.old) slot bytes.now else model self.old) }
+    // Where there is no such slot nothing changes.
+    pub fn set_slot(&mut self, slot: u32, bytes: &[u8; 60]) -> Result<(), LogFault>
+        ensures value { result ≡ (if has_slot (model self.old).slots slot then Ok tt else Err LogFault.Outside) }
+        ensures after { model self.new ≡ (if is_ok result then with_slot_set (model self.old) slot bytes.now else model self.old) }
     {
-        if slot == 0 || slot as usize > self.slots.len() {
-            return false;
-        }
-        self.slots[slot as usize - 1] = *bytes;
-        true
+        let place = slot.checked_sub(1).ok_or(LogFault::Outside)?;
+        let slot = self.slots.get_mut(place as usize).ok_or(LogFault::Outside)?;
+        *slot = *bytes;
+        Ok(())
     }
 
-    // Puts a slot at the end and makes all forced; false where the log is full.
-    pub fn put_slot(&mut self, bytes: &[u8; 60]) -> bool
-        ensures room { result ≡ nat_lt (length (model self.old).slots) (model self.old).capacity }
-        ensures after { model self.new ≡ (if result then with_slot_forced (model self.old) bytes.now else model self.old) }
+    // Puts a slot at the end and makes all forced; where the log is full nothing changes.
+    pub fn put_slot(&mut self, bytes: &[u8; 60]) -> Result<(), LogFault>
+        ensures value { result ≡ (if nat_lt (length (model self.old).slots) (model self.old).capacity then Ok tt else Err LogFault.Full) }
+        ensures after { model self.new ≡ (if is_ok result then with_slot_forced (model self.old) bytes.now else model self.old) }
     {
-        if self.slots.len() >= self.capacity as usize {
-            return false;
+        if self.slots() >= self.capacity() {
+            return Err(LogFault::Full);
         }
         self.put_raised(bytes, u32::MAX);
-        true
+        Ok(())
     }
 
     pub fn cut_power(&mut self)

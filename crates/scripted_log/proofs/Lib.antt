@@ -1,2 +1,0 @@
-mod ScriptedOutcomes
-mod ScriptedRows
