@@ -42,8 +42,8 @@ impl ScriptedLog {
     pub fn slot(&self, slot: u32) -> Option<&[u8; 60]>
         ensures { option_copied result ≡ slot_at (model self.now).slots slot }
     {
-        let place = slot.checked_sub(1)?;
-        self.slots.get(place as usize)
+        let index = slot.checked_sub(1)?;
+        self.slots.get(index as usize)
     }
 
     // Where there is no such slot nothing changes.
@@ -51,9 +51,9 @@ impl ScriptedLog {
         ensures value { result ≡ (if has_slot (model self.old).slots slot then Ok tt else Err LogFault.Outside) }
         ensures after { model self.new ≡ (if is_ok result then with_slot_set (model self.old) slot bytes.now else model self.old) }
     {
-        let place = slot.checked_sub(1).ok_or(LogFault::Outside)?;
-        let slot = self.slots.get_mut(place as usize).ok_or(LogFault::Outside)?;
-        *slot = *bytes;
+        let index = slot.checked_sub(1).ok_or(LogFault::Outside)?;
+        let place = self.slots.get_mut(index as usize).ok_or(LogFault::Outside)?;
+        *place = *bytes;
         Ok(())
     }
 

@@ -16,6 +16,7 @@ impl ScriptedPages {
     pub fn new(heap: Global, size: u32, script: Script) -> Result<ScriptedPages, AllocError>
         ensures { IfOk result (λ s. model s ≡ record { pages = replicate (min size 65536) (replicate 256 0); powered = true }) }
     {
+        // By `vec!` each page would be known as a clone alone, and so its first 256 bytes and not its length.
         let mut pages = Vec::new(heap);
         pages.resize(size.min(MOST_PAGES) as usize, [0; 256])?;
         Ok(ScriptedPages {
