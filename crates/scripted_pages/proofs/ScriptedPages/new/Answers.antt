@@ -1,4 +1,4 @@
-use Rattle.std.proofs.Common.{◌≡◌, ℕ, zero, suc, ◌<◌, ◌≤◌, true, List, [], get_or, replicate, refl, arith, lit<}
+use Rattle.std.proofs.Common.{◌≡◌, ℕ, zero, suc, ◌<◌, ◌≤◌, Bool, List, [], get_or, replicate, refl, arith, lit<}
 use Rattle.std.proofs.lemmas.Grind.{common_steps}
 use Rattle.std.proofs.lemmas.List.{get_or-replicate, length-replicate}
 use Rattle.device.specs.PageStores.{SoundPages}
@@ -9,9 +9,9 @@ small_zeros zero k = lit< tt
 small_zeros (suc w) zero = lit< tt
 small_zeros (suc w) (suc k) = small_zeros w k
 
-blank_sound : (n : ℕ) (page : List ℕ) (pages : List (List ℕ)) → page ≡ replicate 256 0 → pages ≡ replicate n page → n ≤ 65536
-    → SoundPages (record { pages = pages; powered = true })
-blank_sound n page pages blank e few = rw e (record {
+blank_sound : (n : ℕ) (page : List ℕ) (pages : List (List ℕ)) (powered : Bool) → page ≡ replicate 256 0 → pages ≡ replicate n page → n ≤ 65536
+    → SoundPages (record { pages = pages; powered = powered })
+blank_sound n page pages powered blank e few = rw e (record {
   few = omega (arith, length-replicate n page);
   each = λ p h.
       let lt : p < n = omega (arith, length-replicate n page) in
@@ -19,4 +19,4 @@ blank_sound n page pages blank e few = rw e (record {
 })
 
 pub invariant_of-result : goal.invariant_of-result
-invariant_of-result c = record { sound = blank_sound c.min.result _ _ refl (grind (arith, common_steps)) (omega (arith, c.min.ensures)) }
+invariant_of-result c = record { sound = blank_sound c.min.result _ _ _ refl (grind (arith, common_steps)) (omega (arith, c.min.ensures)) }
