@@ -14,7 +14,7 @@ use Rattle.format.specs.declared.slot.fields.Uses.{Uses}
 use Rattle.format.specs.Bytes.{all_zero}
 use Rattle.format.proofs.Rows.{all_zero_is}
 use Rattle.format.specs.Changes.{Meaning, Lawful}
-use Rattle.format.specs.Slots.{uses_of, kinds, at_kind, by_kind, flat, slot_of, slot_fields, unused_zero, only_by, record_of, change_fits, no_change, kind_of_action}
+use Rattle.format.specs.Slots.{uses_of, kinds, at_kind, by_kind, flat, slot_of, slot_fields, unused_zero, only_by, record_of, change_fits, no_change, kind_number, kind_of_action}
 
 -- Fields of a slot
 
@@ -97,7 +97,7 @@ module _ {C : Type 0} (m : Meaning C) (law : Lawful m) (f : Fields) (u : Uses) (
       ap (slot_fields m) (sym q) ∙ (e ∙ ap (λ (v : Option Uses). only_by v f) eu)
 
   settled_record : (a : Action) (o : Option C) → m.reads f.change ≡ o → option_map (record_of a f) o ≡ Some s
-      → f.kind ≡ kind_of_action a → uses_of 2 ≡ Some u → slot_fields m s ≡ only_by (Some u) f
+      → f.kind ≡ kind_number (kind_of_action a) → uses_of 2 ≡ Some u → slot_fields m s ≡ only_by (Some u) f
   settled_record a None e es k eu = let z : ◌≡◌ {A = ℕ} 0 1 = cc in absurd (omega arith)
   settled_record a (Some c) e es k eu = settled (uses_of 2) (record_of a f c) eu es
       (λ i. record { kind = sym k i; page = f.page; job = f.job; lrc = f.lrc; link = f.link; change = law.reads_bytes f.change c e i })

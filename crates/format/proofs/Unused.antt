@@ -12,7 +12,7 @@ use Rattle.format.specs.declared.slot.CheckpointPart.TheVariants.{Begin, DirtyPa
 use Rattle.format.specs.Bytes.{spelled}
 use Rattle.format.specs.Changes.{Meaning, Lawful}
 use Rattle.format.proofs.ByKind.{rowed, change_length}
-use Rattle.format.specs.Slots.{kinds, nth, uses_of, uses_byte, kind_uses_byte, laid_out, only_by, no_change, kind_of, slot_fields, slot_bytes}
+use Rattle.format.specs.Slots.{kinds, nth, uses_of, uses_byte, kind_uses_byte, laid_out, only_by, no_change, kind_number, kind_of, slot_fields, slot_bytes}
 
 -- The test
 
@@ -103,7 +103,7 @@ laid_clean u f long =
 
 -- Every slot
 
-kind_field : {C : Type 0} (m : Meaning C) (s : Slot C) → (slot_fields m s).kind ≡ kind_of s
+kind_field : {C : Type 0} (m : Meaning C) (s : Slot C) → (slot_fields m s).kind ≡ kind_number (kind_of s)
 kind_field m (Record r) = refl
 kind_field m (Job e j) = refl
 kind_field m (Checkpoint Begin) = refl
@@ -111,16 +111,16 @@ kind_field m (Checkpoint (DirtyPage p s)) = refl
 kind_field m (Checkpoint (OpenJob j n)) = refl
 kind_field m (Checkpoint (Complete b)) = refl
 
-pub unused_byte : {C : Type 0} (m : Meaning C) → Lawful m → (s : Slot C) (i : ℕ) → kind_uses_byte (kind_of s) i ≡ false
+pub unused_byte : {C : Type 0} (m : Meaning C) → Lawful m → (s : Slot C) (i : ℕ) → kind_uses_byte (kind_number (kind_of s)) i ≡ false
     → get_or (slot_bytes m s) i 0 ≡ 0
 unused_byte m law s i free =
     let f = slot_fields m s in
     let r = rowed m s in
     let u = r.row in
-    let row : uses_of (kind_of s) ≡ Some u = ap uses_of (sym (kind_field m s)) ∙ r.at in
+    let row : uses_of (kind_number (kind_of s)) ≡ Some u = ap uses_of (sym (kind_field m s)) ∙ r.at in
     let off : uses_byte u i ≡ false = ap (λ (w : Option Uses). unwrap_or (option_map (λ v. uses_byte v i) w) false) (sym row) ∙ free in
     let clear : get_or (stencil u) i false ≡ false = ⊎_elim
-    (λ (lt : i < 60). byte_tested u 60 i (row_tested (kind_of s) u row) lt off)
+    (λ (lt : i < 60). byte_tested u 60 i (row_tested (kind_number (kind_of s)) u row) lt off)
     (λ (le : 60 ≤ i). get_or_past (stencil u) i false le) (cases_lt i 60) in
     ap (λ (w : Option Uses). get_or (laid_out (only_by w f)) i 0) r.at
     ∙ clean_at (laid_clean u f (change_length m law s)) i clear

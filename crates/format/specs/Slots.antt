@@ -1,6 +1,7 @@
 -- A slot in 60 bytes: the nine kinds and the fields that each uses, when bytes fit, and what they are read as.
 -- Assumes nothing.
 use Rattle.std.specs.Prelude.{◌≡◌, ℕ, zero, suc, ◌^◌, ◌<◌, Bool, true, false, cond, not, ◌&&◌, ◌||◌, List, [], ◌∷◌, ◌++◌, length, take, drop, replicate, is_some, Some, None, Err, Option, Result, ◌==◌, nat_le, nat_lt, slice_index}
+use Rattle.std.specs.List.{find}
 use Rattle.std.specs.Option.{option_map, ok_or, unwrap_or}
 use Rattle.format.specs.declared.slot.Slot.{Slot}
 use Rattle.format.specs.declared.slot.Slot.TheVariants.{Record, Job, Checkpoint}
@@ -10,6 +11,8 @@ use Rattle.format.specs.declared.slot.JobEvent.{JobEvent}
 use Rattle.format.specs.declared.slot.JobEvent.TheVariants.{Open, Commit, End}
 use Rattle.format.specs.declared.slot.CheckpointPart.{CheckpointPart}
 use Rattle.format.specs.declared.slot.CheckpointPart.TheVariants.{Begin, DirtyPage, OpenJob, Complete}
+use Rattle.format.specs.declared.slot.kind.SlotKind.{SlotKind}
+use Rattle.format.specs.declared.slot.kind.SlotKind.TheVariants as kind
 use Rattle.format.specs.declared.slot.fields.Fields.{Fields}
 use Rattle.format.specs.declared.slot.fields.Uses.{Uses}
 use Rattle.format.specs.declared.slot.Misfit.{Misfit}
@@ -19,23 +22,43 @@ use Rattle.format.specs.Changes.{Meaning}
 
 -- Kinds
 
-abbrev pub kind_of_action : Action → ℕ
-kind_of_action Put = 2
-kind_of_action TakeBack = 3
+-- the number that stands for a kind in byte 0
+abbrev pub kind_number : SlotKind → ℕ
+kind_number kind.Open = 1
+kind_number kind.Change = 2
+kind_number kind.Compensation = 3
+kind_number kind.Commit = 4
+kind_number kind.End = 5
+kind_number kind.CheckpointBegin = 6
+kind_number kind.CheckpointPage = 7
+kind_number kind.CheckpointJob = 8
+kind_number kind.CheckpointEnd = 9
 
-abbrev pub kind_of_event : JobEvent → ℕ
-kind_of_event Open = 1
-kind_of_event Commit = 4
-kind_of_event End = 5
+abbrev pub every_kind : List SlotKind
+every_kind =
+    kind.Open ∷ kind.Change ∷ kind.Compensation ∷ kind.Commit ∷ kind.End ∷
+    kind.CheckpointBegin ∷ kind.CheckpointPage ∷ kind.CheckpointJob ∷ kind.CheckpointEnd ∷ []
 
-abbrev pub kind_of_part : CheckpointPart → ℕ
-kind_of_part Begin = 6
-kind_of_part (DirtyPage p s) = 7
-kind_of_part (OpenJob j n) = 8
-kind_of_part (Complete b) = 9
+-- the kind that a number stands for
+abbrev pub kind_numbered : ℕ → Option SlotKind
+kind_numbered n = find (λ k. n == kind_number k) every_kind
 
--- the number of a slot's kind, which stands in byte 0
-abbrev pub kind_of : {C : Type 0} → Slot C → ℕ
+abbrev pub kind_of_action : Action → SlotKind
+kind_of_action Put = kind.Change
+kind_of_action TakeBack = kind.Compensation
+
+abbrev pub kind_of_event : JobEvent → SlotKind
+kind_of_event Open = kind.Open
+kind_of_event Commit = kind.Commit
+kind_of_event End = kind.End
+
+abbrev pub kind_of_part : CheckpointPart → SlotKind
+kind_of_part Begin = kind.CheckpointBegin
+kind_of_part (DirtyPage p s) = kind.CheckpointPage
+kind_of_part (OpenJob j n) = kind.CheckpointJob
+kind_of_part (Complete b) = kind.CheckpointEnd
+
+abbrev pub kind_of : {C : Type 0} → Slot C → SlotKind
 kind_of (Record r) = kind_of_action r.action
 kind_of (Job e j) = kind_of_event e
 kind_of (Checkpoint p) = kind_of_part p
@@ -188,7 +211,7 @@ abbrev pub no_change : List ℕ
 no_change = replicate 40 0
 
 abbrev pub event_fields : JobEvent → ℕ → Fields
-event_fields e j = fields (kind_of_event e) 0 j 0 0 no_change
+event_fields e j = fields (kind_number (kind_of_event e)) 0 j 0 0 no_change
 
 abbrev pub part_fields : CheckpointPart → Fields
 part_fields Begin = fields 6 0 0 0 0 no_change
@@ -198,7 +221,7 @@ part_fields (Complete b) = fields 9 0 0 0 b no_change
 
 -- the fields of a slot, zero where it has none
 abbrev pub slot_fields : {C : Type 0} → Meaning C → Slot C → Fields
-slot_fields m (Record r) = fields (kind_of_action r.action) r.page r.job r.lrc r.link (m.bytes r.change)
+slot_fields m (Record r) = fields (kind_number (kind_of_action r.action)) r.page r.job r.lrc r.link (m.bytes r.change)
 slot_fields m (Job e j) = event_fields e j
 slot_fields m (Checkpoint p) = part_fields p
 

@@ -10,4 +10,4 @@ mod words;
 pub use bytes::{all_zero, number_at};
 pub use change::Change;
 pub use page::Page;
-pub use slot::{Action, CheckpointPart, JobEvent, Misfit, PageRecord, Slot};
+pub use slot::{Action, CheckpointPart, JobEvent, Misfit, PageRecord, Slot, SlotKind};

@@ -4,8 +4,11 @@ ghost use Rattle.std.specs.Prelude.{◌≡◌};
 ghost use Rattle.format.specs.Slots.{kind_of};
 
 mod fields;
+mod kind;
 mod read;
 mod write;
+
+pub use kind::SlotKind;
 
 #[derive(Clone, Copy)]
 pub enum Slot<C> {
@@ -62,25 +65,24 @@ pub enum Misfit {
 }
 
 impl<C> Slot<C> {
-    // The number of the slot's kind, which stands in byte 0.
-    pub fn kind(&self) -> u8
+    pub fn kind(&self) -> SlotKind
         ensures { result ≡ kind_of self.now }
     {
         match self {
             Slot::Record(record) => match record.action {
-                Action::Put => 2,
-                Action::TakeBack => 3,
+                Action::Put => SlotKind::Change,
+                Action::TakeBack => SlotKind::Compensation,
             },
             Slot::Job { event, .. } => match event {
-                JobEvent::Open => 1,
-                JobEvent::Commit => 4,
-                JobEvent::End => 5,
+                JobEvent::Open => SlotKind::Open,
+                JobEvent::Commit => SlotKind::Commit,
+                JobEvent::End => SlotKind::End,
             },
             Slot::Checkpoint(part) => match part {
-                CheckpointPart::Begin => 6,
-                CheckpointPart::DirtyPage { .. } => 7,
-                CheckpointPart::OpenJob { .. } => 8,
-                CheckpointPart::Complete { .. } => 9,
+                CheckpointPart::Begin => SlotKind::CheckpointBegin,
+                CheckpointPart::DirtyPage { .. } => SlotKind::CheckpointPage,
+                CheckpointPart::OpenJob { .. } => SlotKind::CheckpointJob,
+                CheckpointPart::Complete { .. } => SlotKind::CheckpointEnd,
             },
         }
     }

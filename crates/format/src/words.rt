@@ -1,5 +1,5 @@
 // Slots and misfits in words, for people.
-use crate::slot::{Action, CheckpointPart, JobEvent, Misfit, PageRecord, Slot};
+use crate::slot::{Action, CheckpointPart, JobEvent, Misfit, PageRecord, Slot, SlotKind};
 use std::fmt;
 
 impl<C: fmt::Display> fmt::Display for Slot<C> {
@@ -29,6 +29,22 @@ impl<C: fmt::Display> fmt::Display for PageRecord<C> {
                 "compensation by job {job} on page {page}, LRC {lrc}, next after {link}: takes back {change}"
             ),
         }
+    }
+}
+
+impl fmt::Display for SlotKind {
+    fn fmt<W: fmt::Write>(&self, f: &mut fmt::Formatter<W>) -> fmt::Result {
+        f.write_str(match self {
+            SlotKind::Open => "open",
+            SlotKind::Change => "change",
+            SlotKind::Compensation => "compensation",
+            SlotKind::Commit => "commit",
+            SlotKind::End => "end",
+            SlotKind::CheckpointBegin => "checkpoint begin",
+            SlotKind::CheckpointPage => "checkpoint page",
+            SlotKind::CheckpointJob => "checkpoint job",
+            SlotKind::CheckpointEnd => "checkpoint end",
+        })
     }
 }
 

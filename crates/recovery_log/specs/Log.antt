@@ -10,7 +10,7 @@ use Rattle.format.specs.declared.slot.JobEvent.{JobEvent}
 use Rattle.format.specs.declared.slot.JobEvent.TheVariants.{Open, Commit, End}
 use Rattle.format.specs.declared.slot.CheckpointPart.{CheckpointPart}
 use Rattle.format.specs.declared.slot.CheckpointPart.TheVariants.{Begin, DirtyPage, OpenJob, Complete}
-use Rattle.format.specs.Slots.{kind_of}
+use Rattle.format.specs.Slots.{kind_number, kind_of}
 
 abbrev pub Log : Type 0 → Type 0
 Log C = List (Option (Slot C))
@@ -183,7 +183,7 @@ last_checkpoint (Some (Checkpoint p) ∷ L) = checkpoint_by p (new_number L) (ma
 -- how many slots are of the kind; kind 0 stands for those that do not fit
 abbrev pub kind_or_0 : {C : Type 0} → Option (Slot C) → ℕ
 kind_or_0 None = 0
-kind_or_0 (Some s) = kind_of s
+kind_or_0 (Some s) = kind_number (kind_of s)
 
 abbrev pub how_many : {C : Type 0} → ℕ → Log C → ℕ
 how_many k [] = 0

@@ -113,7 +113,7 @@ fn kind_or_zero<C>(slot: Option<&Slot<C>>) -> u8
     ensures bound { result < 10 }
 {
     match slot {
-        Some(slot) => slot.kind(),
+        Some(slot) => u8::from(slot.kind()),
         None => 0,
     }
 }

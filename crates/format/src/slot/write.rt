@@ -1,7 +1,7 @@
 // Writes a slot into its 60 bytes.
 ghost use Rattle.std.specs.Prelude.{◌≡◌, ℕ, true, false, Ok, slice_index};
 ghost use Rattle.format.specs.declared.slot.Slot.TheVariants.{Record};
-ghost use Rattle.format.specs.Slots.{slot_fields, part_fields, event_fields, only_used, slot_bytes, slot_fits, read_slot, kind_uses_byte, kind_of};
+ghost use Rattle.format.specs.Slots.{slot_fields, part_fields, event_fields, only_used, slot_bytes, slot_fits, read_slot, kind_uses_byte, kind_number, kind_of};
 
 use super::fields::Fields;
 use super::{Action, CheckpointPart, JobEvent, PageRecord, Slot};
@@ -12,7 +12,7 @@ impl<C: Change> Slot<C> {
     pub fn write(&self) -> [u8; 60]
         ensures value { result ≡ slot_bytes C.Change.meaning self.now }
         ensures reads { (pages number : ℕ) → slot_fits C.Change.meaning pages number self.now ≡ true → read_slot C.Change.meaning pages number result ≡ Ok self.now }
-        ensures unused { (i : ℕ) → kind_uses_byte (kind_of self.now) i ≡ false → slice_index result i ≡ 0 }
+        ensures unused { (i : ℕ) → kind_uses_byte (kind_number (kind_of self.now)) i ≡ false → slice_index result i ≡ 0 }
     {
         fields(self).only_used().write()
     }
