@@ -1,69 +1,123 @@
--- The nine kinds, one after the other: what a slot's fields are, and which slot fields give. Assumes nothing.
-use Rattle.std.proofs.Common.{◌≡◌, ℕ, zero, suc, Bool, true, false, cond, ◌||◌, eqb, length, replicate, is_some, Some, None, Option, sym, refl, ap, ◌∙◌, arith}
+-- The nine kinds, one after the other: their numbers, what a slot's fields are, and which slot fields give. Assumes nothing.
+use Rattle.std.proofs.Common.{◌≡◌, ℕ, Bool, true, false, cond, ◌||◌, eqb, List, [], ◌∷◌, length, replicate, is_some, Some, None, Option, sym, refl, ap, ◌∙◌, subst, arith}
+use Rattle.std.specs.List.{find}
 use Rattle.std.specs.Option.{option_map}
 use Rattle.std.proofs.lemmas.Bool.{and_parts, eqb-true}
 use Rattle.format.specs.declared.slot.Slot.{Slot}
 use Rattle.format.specs.declared.slot.Slot.TheVariants.{Record, Job, Checkpoint}
-use Rattle.format.specs.declared.slot.PageRecord.{PageRecord}
 use Rattle.format.specs.declared.slot.Action.{Action}
 use Rattle.format.specs.declared.slot.Action.TheVariants.{Put, TakeBack}
 use Rattle.format.specs.declared.slot.JobEvent.TheVariants.{Open, Commit, End}
 use Rattle.format.specs.declared.slot.CheckpointPart.TheVariants.{Begin, DirtyPage, OpenJob, Complete}
+use Rattle.format.specs.declared.slot.kind.SlotKind.{SlotKind}
+use Rattle.format.specs.declared.slot.kind.SlotKind.TheVariants as kind
 use Rattle.format.specs.declared.slot.fields.Fields.{Fields}
-use Rattle.format.specs.declared.slot.fields.Uses.{Uses}
 use Rattle.format.specs.Bytes.{all_zero}
 use Rattle.format.proofs.Rows.{all_zero_is}
 use Rattle.format.specs.Changes.{Meaning, Lawful}
-use Rattle.format.specs.Slots.{uses_of, kinds, at_kind, by_kind, flat, slot_of, slot_fields, unused_zero, only_by, record_of, change_fits, no_change, kind_number, kind_of_action}
+use Rattle.format.specs.Slots.{kind_of, kind_of_action, kind_number, kind_numbered, every_kind, uses_of, slot_by, slot_of, slot_fields, fields, unused_zero, only_used, record_of, change_fits, no_change}
 
--- Fields of a slot
+pub number_kind : (k : SlotKind) → kind_numbered (kind_number k) ≡ Some k
+number_kind kind.Open = refl
+number_kind kind.Change = refl
+number_kind kind.Compensation = refl
+number_kind kind.Commit = refl
+number_kind kind.End = refl
+number_kind kind.CheckpointBegin = refl
+number_kind kind.CheckpointPage = refl
+number_kind kind.CheckpointJob = refl
+number_kind kind.CheckpointEnd = refl
 
--- its kind has a row, and what the row leaves out is zero
-pub record Rowed (f : Fields) : Type 0 where
-  pub row : Uses
-  pub at : uses_of f.kind ≡ Some row
-  pub clean : unused_zero row f ≡ true
+-- what is found passes the test
+passes : {X : Type 0} (p : X → Bool) (xs : List X) (x : X) → find p xs ≡ Some x → p x ≡ true
+passes p [] x e = let z : ◌≡◌ {A = ℕ} 0 1 = cc in absurd (omega arith)
+passes p (y ∷ xs) x e = go (p y) refl e (passes p xs x)
+  where
+    go : (t : Bool) → p y ≡ t → cond t (Some y) (find p xs) ≡ Some x → (find p xs ≡ Some x → p x ≡ true) → p x ≡ true
+    go true q h more = let same : y ≡ x = cc in subst (λ v. p v ≡ true) same q
+    go false q h more = more h
+
+pub numbered_kind : (n : ℕ) (k : SlotKind) → kind_numbered n ≡ Some k → kind_number k ≡ n
+numbered_kind n k e = sym (eqb-true n (kind_number k) (passes (λ j. eqb n (kind_number j)) every_kind k e))
 
 module _ {C : Type 0} (m : Meaning C) where
-  rowed_record : (a : Action) (p j l k : ℕ) (c : C)
-      → Rowed (slot_fields m (Record (record { action = a; page = p; job = j; lrc = l; link = k; change = c })))
-  rowed_record Put p j l k c = record { row = _; at = refl; clean = refl }
-  rowed_record TakeBack p j l k c = record { row = _; at = refl; clean = refl }
+  -- Fields of a slot
 
-  pub rowed : (s : Slot C) → Rowed (slot_fields m s)
-  rowed (Record r) = rowed_record r.action r.page r.job r.lrc r.link r.change
-  rowed (Job Open j) = record { row = _; at = refl; clean = refl }
-  rowed (Job Commit j) = record { row = _; at = refl; clean = refl }
-  rowed (Job End j) = record { row = _; at = refl; clean = refl }
-  rowed (Checkpoint Begin) = record { row = _; at = refl; clean = refl }
-  rowed (Checkpoint (DirtyPage p s)) = record { row = _; at = refl; clean = refl }
-  rowed (Checkpoint (OpenJob j n)) = record { row = _; at = refl; clean = refl }
-  rowed (Checkpoint (Complete b)) = record { row = _; at = refl; clean = refl }
+  -- they are of its kind, zero where the kind has none, and give the slot
+  pub record Told (s : Slot C) : Type 0 where
+    pub kind : (slot_fields m s).kind ≡ kind_of s
+    pub long : length (slot_fields m s).change ≡ 40
+    pub clean : unused_zero (uses_of (slot_fields m s).kind) (slot_fields m s) ≡ true
+    pub gives : slot_of m (slot_fields m s) ≡ Some s
 
-  module _ (law : Lawful m) where
-    slot_of_record : (a : Action) (p j l k : ℕ) (c : C) → let r : PageRecord C = record { action = a; page = p; job = j; lrc = l; link = k; change = c } in
-        slot_of m (slot_fields m (Record r)) ≡ Some (Record r)
-    slot_of_record Put p j l k c = rw (law.bytes_read c)
-    slot_of_record TakeBack p j l k c = rw (law.bytes_read c)
+  pub told : Lawful m → (s : Slot C) → Told s
+  told law (Record r) = go r.action
+    where
+      go : (a : Action) → Told (Record (record { action = a; page = r.page; job = r.job; lrc = r.lrc; link = r.link; change = r.change }))
+      go Put = record { kind = refl; long = (law.bytes_fit r.change).size; clean = refl; gives = rw (law.bytes_read r.change) }
+      go TakeBack = record { kind = refl; long = (law.bytes_fit r.change).size; clean = refl; gives = rw (law.bytes_read r.change) }
+  told law (Job Open j) = record { kind = refl; long = refl; clean = refl; gives = refl }
+  told law (Job Commit j) = record { kind = refl; long = refl; clean = refl; gives = refl }
+  told law (Job End j) = record { kind = refl; long = refl; clean = refl; gives = refl }
+  told law (Checkpoint Begin) = record { kind = refl; long = refl; clean = refl; gives = refl }
+  told law (Checkpoint (DirtyPage p s)) = record { kind = refl; long = refl; clean = refl; gives = refl }
+  told law (Checkpoint (OpenJob j n)) = record { kind = refl; long = refl; clean = refl; gives = refl }
+  told law (Checkpoint (Complete b)) = record { kind = refl; long = refl; clean = refl; gives = refl }
 
-    -- a slot's fields give the slot
-    pub slot_of_fields : (s : Slot C) → slot_of m (slot_fields m s) ≡ Some s
-    slot_of_fields (Record r) = slot_of_record r.action r.page r.job r.lrc r.link r.change
-    slot_of_fields (Job Open j) = refl
-    slot_of_fields (Job Commit j) = refl
-    slot_of_fields (Job End j) = refl
-    slot_of_fields (Checkpoint Begin) = refl
-    slot_of_fields (Checkpoint (DirtyPage p s)) = refl
-    slot_of_fields (Checkpoint (OpenJob j n)) = refl
-    slot_of_fields (Checkpoint (Complete b)) = refl
+  -- Fields that give a slot
 
-    pub change_length : (s : Slot C) → length (slot_fields m s).change ≡ 40
-    change_length (Record r) = (law.bytes_fit r.change).size
-    change_length (Job e j) = refl
-    change_length (Checkpoint Begin) = refl
-    change_length (Checkpoint (DirtyPage p s)) = refl
-    change_length (Checkpoint (OpenJob j n)) = refl
-    change_length (Checkpoint (Complete b)) = refl
+  module _ (law : Lawful m) (p j l x : ℕ) (c : List ℕ) (s : Slot C) where
+    of_record : (a : Action) (o : Option C) → m.reads c ≡ o → option_map (record_of a (fields (kind_of_action a) p j l x c)) o ≡ Some s
+        → slot_fields m s ≡ fields (kind_of_action a) p j l x c
+    of_record a None e g = let z : ◌≡◌ {A = ℕ} 0 1 = cc in absurd (omega arith)
+    of_record a (Some d) e g = let b = law.reads_bytes c d e in cc
+
+    -- a slot's fields are those that its kind uses
+    by_kind : (k : SlotKind) → slot_of m (fields k p j l x c) ≡ Some s → slot_fields m s ≡ only_used (fields k p j l x c)
+    by_kind kind.Open g = cc
+    by_kind kind.Change g = of_record Put _ refl g
+    by_kind kind.Compensation g = of_record TakeBack _ refl g
+    by_kind kind.Commit g = cc
+    by_kind kind.End g = cc
+    by_kind kind.CheckpointBegin g = cc
+    by_kind kind.CheckpointPage g = cc
+    by_kind kind.CheckpointJob g = cc
+    by_kind kind.CheckpointEnd g = cc
+
+  pub fields_of_slot : Lawful m → (f : Fields) (s : Slot C) → slot_of m f ≡ Some s → slot_fields m s ≡ only_used f
+  fields_of_slot law f s g = by_kind law f.page f.job f.lrc f.link f.change s f.kind g
+
+  of_action : (a : Action) (f : Fields) (s : Slot C) (o : Option C) → option_map (record_of a f) o ≡ Some s → kind_of s ≡ kind_of_action a
+  of_action a f s None g = let z : ◌≡◌ {A = ℕ} 0 1 = cc in absurd (omega arith)
+  of_action a f s (Some d) g = cc
+
+  -- a slot is of the kind under which it was found
+  pub kind_of_slot : (f : Fields) (s : Slot C) (k : SlotKind) → slot_by m f k ≡ Some s → kind_of s ≡ k
+  kind_of_slot f s kind.Open g = cc
+  kind_of_slot f s kind.Change g = of_action Put f s _ g
+  kind_of_slot f s kind.Compensation g = of_action TakeBack f s _ g
+  kind_of_slot f s kind.Commit g = cc
+  kind_of_slot f s kind.End g = cc
+  kind_of_slot f s kind.CheckpointBegin g = cc
+  kind_of_slot f s kind.CheckpointPage g = cc
+  kind_of_slot f s kind.CheckpointJob g = cc
+  kind_of_slot f s kind.CheckpointEnd g = cc
+
+  some_mapped : {A B : Type 0} (g : A → B) (o : Option A) → is_some (option_map g o) ≡ is_some o
+  some_mapped g None = refl
+  some_mapped g (Some x) = refl
+
+  -- fields give a slot exactly where their change is one
+  pub has_slot : (f : Fields) (k : SlotKind) → is_some (slot_by m f k) ≡ change_fits m (uses_of k) f
+  has_slot f kind.Open = refl
+  has_slot f kind.Change = some_mapped _ (m.reads f.change)
+  has_slot f kind.Compensation = some_mapped _ (m.reads f.change)
+  has_slot f kind.Commit = refl
+  has_slot f kind.End = refl
+  has_slot f kind.CheckpointBegin = refl
+  has_slot f kind.CheckpointPage = refl
+  has_slot f kind.CheckpointJob = refl
+  has_slot f kind.CheckpointEnd = refl
 
 -- Fields that are clean
 
@@ -71,9 +125,10 @@ kept : {A : Type 0} (u : Bool) (t : Bool) (x z : A) → (t ≡ true → x ≡ z)
 kept true t x z to h = refl
 kept false t x z to h = sym (to h)
 
--- what a row leaves out is zero already
-pub only_clean : (u : Uses) (f : Fields) → length f.change ≡ 40 → unused_zero u f ≡ true → only_by (Some u) f ≡ f
-only_clean u f long h =
+-- what the kind does not use is zero already
+pub only_clean : (f : Fields) → length f.change ≡ 40 → unused_zero (uses_of f.kind) f ≡ true → only_used f ≡ f
+only_clean f long h =
+    let u = uses_of f.kind in
     let p1 = and_parts _ _ h in
     let p2 = and_parts _ _ p1.1 in
     let p3 = and_parts _ _ p2.1 in
@@ -85,59 +140,3 @@ only_clean u f long h =
     let change = kept u.change (all_zero f.change) f.change no_change
     (λ z. all_zero_is f.change z ∙ ap (λ (n : ℕ). replicate n 0) long) p4.1 in
     λ i. record { kind = f.kind; page = page i; job = job i; lrc = lrc i; link = link i; change = change i }
-
--- Fields that give a slot
-
-module _ {C : Type 0} (m : Meaning C) (law : Lawful m) (f : Fields) (u : Uses) (s : Slot C) where
-  -- the row and the slot are those of one kind
-  settled : (w : Option Uses) (t : Slot C) → w ≡ Some u → Some t ≡ Some s → slot_fields m t ≡ only_by w f
-      → slot_fields m s ≡ only_by (Some u) f
-  settled w t eu es e =
-      let q : t ≡ s = cc in
-      ap (slot_fields m) (sym q) ∙ (e ∙ ap (λ (v : Option Uses). only_by v f) eu)
-
-  settled_record : (a : Action) (o : Option C) → m.reads f.change ≡ o → option_map (record_of a f) o ≡ Some s
-      → f.kind ≡ kind_number (kind_of_action a) → uses_of 2 ≡ Some u → slot_fields m s ≡ only_by (Some u) f
-  settled_record a None e es k eu = let z : ◌≡◌ {A = ℕ} 0 1 = cc in absurd (omega arith)
-  settled_record a (Some c) e es k eu = settled (uses_of 2) (record_of a f c) eu es
-      (λ i. record { kind = sym k i; page = f.page; job = f.job; lrc = f.lrc; link = f.link; change = law.reads_bytes f.change c e i })
-
-  -- a slot's fields are those that its kind uses
-  pub fields_of_slot : (k : ℕ) → f.kind ≡ k → at_kind kinds k ≡ Some u → flat (at_kind (by_kind m f) k) ≡ Some s
-      → slot_fields m s ≡ only_by (Some u) f
-  fields_of_slot zero e eu es = let z : ◌≡◌ {A = ℕ} 0 1 = cc in absurd (omega arith)
-  fields_of_slot (suc zero) e eu es = settled _ _ eu es (rw e)
-  fields_of_slot (suc (suc zero)) e eu es = settled_record Put _ refl es e eu
-  fields_of_slot (suc (suc (suc zero))) e eu es = settled_record TakeBack _ refl es e eu
-  fields_of_slot (suc (suc (suc (suc zero)))) e eu es = settled _ _ eu es (rw e)
-  fields_of_slot (suc (suc (suc (suc (suc zero))))) e eu es = settled _ _ eu es (rw e)
-  fields_of_slot (suc (suc (suc (suc (suc (suc zero)))))) e eu es = settled _ _ eu es (rw e)
-  fields_of_slot (suc (suc (suc (suc (suc (suc (suc zero))))))) e eu es = settled _ _ eu es (rw e)
-  fields_of_slot (suc (suc (suc (suc (suc (suc (suc (suc zero)))))))) e eu es = settled _ _ eu es (rw e)
-  fields_of_slot (suc (suc (suc (suc (suc (suc (suc (suc (suc zero))))))))) e eu es = settled _ _ eu es (rw e)
-  fields_of_slot (suc (suc (suc (suc (suc (suc (suc (suc (suc (suc k)))))))))) e eu es =
-      let z : ◌≡◌ {A = ℕ} 0 1 = cc in absurd (omega arith)
-
-some_mapped : {A B : Type 0} (g : A → B) (o : Option A) → is_some (option_map g o) ≡ is_some o
-some_mapped g None = refl
-some_mapped g (Some x) = refl
-
-module _ {C : Type 0} (m : Meaning C) (f : Fields) (u : Uses) where
-  abbrev by_row : Option Uses → Bool
-  by_row None = true
-  by_row (Some v) = change_fits m v f
-
-  -- fields give a slot exactly where their change is one
-  pub has_slot : (k : ℕ) → at_kind kinds k ≡ Some u → is_some (flat (at_kind (by_kind m f) k)) ≡ change_fits m u f
-  has_slot zero e = let z : ◌≡◌ {A = ℕ} 0 1 = cc in absurd (omega arith)
-  has_slot (suc zero) e = ap (by_row) e
-  has_slot (suc (suc zero)) e = some_mapped _ (m.reads f.change) ∙ ap (by_row) e
-  has_slot (suc (suc (suc zero))) e = some_mapped _ (m.reads f.change) ∙ ap (by_row) e
-  has_slot (suc (suc (suc (suc zero)))) e = ap (by_row) e
-  has_slot (suc (suc (suc (suc (suc zero))))) e = ap (by_row) e
-  has_slot (suc (suc (suc (suc (suc (suc zero)))))) e = ap (by_row) e
-  has_slot (suc (suc (suc (suc (suc (suc (suc zero))))))) e = ap (by_row) e
-  has_slot (suc (suc (suc (suc (suc (suc (suc (suc zero)))))))) e = ap (by_row) e
-  has_slot (suc (suc (suc (suc (suc (suc (suc (suc (suc zero))))))))) e = ap (by_row) e
-  has_slot (suc (suc (suc (suc (suc (suc (suc (suc (suc (suc k)))))))))) e =
-      let z : ◌≡◌ {A = ℕ} 0 1 = cc in absurd (omega arith)

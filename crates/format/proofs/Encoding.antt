@@ -1,112 +1,88 @@
 -- Every slot has one encoding: what is written reads back, and what reads is what is written. Assumes nothing.
-use Rattle.std.proofs.Common.{◌≡◌, ℕ, Bool, true, false, cond, ◌&&◌, List, length, get_or, take, drop, is_some, is_ok, IfOk, Some, None, Ok, Err, Option, Result, sym, refl, ap, ◌∙◌, arith}
-use Rattle.std.proofs.lemmas.Bool.{and_parts, cond-true}
+use Rattle.std.proofs.Common.{◌≡◌, ℕ, Bool, true, false, cond, not, ◌&&◌, ◌||◌, ltb, leb, List, length, get_or, take, drop, is_ok, IfOk, Ok, Err, Result, sym, refl, ap, ◌∙◌, arith}
+use Rattle.std.specs.Option.{option_map_or, ok_or}
+use Rattle.std.proofs.Math.Bool.{and_assoc}
+use Rattle.std.proofs.lemmas.Bool.{and_parts, and_from}
 use Rattle.std.proofs.lemmas.List.{length-take-le, length-drop}
 use Rattle.format.specs.declared.slot.Slot.{Slot}
 use Rattle.format.specs.declared.slot.Misfit.{Misfit}
-use Rattle.format.specs.declared.slot.Misfit.TheVariants.{UnusedNotZero}
+use Rattle.format.specs.declared.slot.Misfit.TheVariants.{UnknownKind, NotAChange}
+use Rattle.format.specs.declared.slot.kind.SlotKind.{SlotKind}
 use Rattle.format.specs.declared.slot.fields.Fields.{Fields}
-use Rattle.format.specs.declared.slot.fields.Uses.{Uses}
 use Rattle.format.specs.Bytes.{Bytes}
 use Rattle.format.specs.Changes.{Meaning, Lawful}
-use Rattle.format.specs.Slots.{uses_of, fields_of, padding_zero, laid_out, Sized, unused_zero, page_fits, job_fits, lrc_fits, link_fits, in_range_by, fits, fits_by, slot_of, slot_fields, only_by, only_used, slot_bytes, slot_fits, misfit_of, unless, or_slot, read_by, read_slot}
-use Rattle.format.proofs.ByKind.{rowed, slot_of_fields, change_length, only_clean, fields_of_slot, has_slot}
+use Rattle.format.specs.Slots.{kind_numbered, uses_of, fields_of, padding_zero, laid_out, Sized, unused_zero, page_fits, job_ends, job_fits, lrc_fits, least_link, link_fits, in_range, change_fits, fits, slot_of, slot_fields, only_used, slot_bytes, slot_fits, ◌>>=◌, checked, read_slot}
+use Rattle.format.proofs.ByKind.{numbered_kind, number_kind, told, only_clean, fields_of_slot, has_slot}
 use Rattle.format.proofs.Laid.{fields_laid_out, padding_laid_out, laid_out_fields}
+use Rattle.format.proofs.Reading.{all_asked, is_done, Found, found, found_when}
 
--- The questions about the fields
+-- the questions about the fields are those of what is used and of what is in range
+checked_when : (size n : ℕ) (f : Fields) → is_ok (checked size n f) ≡ (unused_zero (uses_of f.kind) f && in_range size n f)
+checked_when size n f =
+    let u = uses_of f.kind in
+    all_asked (unused_zero u f) (page_fits size u f) (job_fits n u f) (lrc_fits u f) (link_fits n u f) _ _ _ _ _
 
-no_misfit : (size n : ℕ) (u : Uses) (f : Fields) → unused_zero u f ≡ true → in_range_by size n f (Some u) ≡ true
-    → misfit_of size n u f ≡ None
-no_misfit size n u f z r =
-    let p1 = and_parts (page_fits size u f) _ r in
-    let p2 = and_parts (job_fits n u f) _ p1.1 in
-    let p3 = and_parts (lrc_fits u f) _ p2.1 in
-    rw (z, p1.0, p2.0, p3.0, p3.1)
+not_used : (u : Bool) (x : ℕ) (t : ℕ → Bool) → (not u || t (cond u x 0)) ≡ (not u || t x)
+not_used true x t = refl
+not_used false x t = refl
+
+-- only the fields that the kind uses count
+pub used_in_range : (size n : ℕ) (f : Fields) → in_range size n (only_used f) ≡ in_range size n f
+used_in_range size n f =
+    let u = uses_of f.kind in
+    let page = not_used u.page f.page (λ x. ltb x size) in
+    let job = not_used u.job f.job (λ x. leb 1 x && job_ends f.kind x n) in
+    let lrc = not_used u.lrc f.lrc (λ x. leb 1 x) in
+    let link = not_used u.link f.link (λ x. leb (least_link f.kind) x && ltb x n) in
+    λ i. page i && (job i && (lrc i && link i))
 
 module _ {C : Type 0} (m : Meaning C) where
   -- What is written reads back
 
   -- writing by the table loses nothing
   pub all_used : Lawful m → (s : Slot C) → only_used (slot_fields m s) ≡ slot_fields m s
-  all_used law s =
-      let r = rowed m s in
-      ap (λ (w : Option Uses). only_by w (slot_fields m s)) r.at ∙ only_clean r.row (slot_fields m s) (change_length m law s) r.clean
+  all_used law s = let t = told m law s in only_clean (slot_fields m s) t.long t.clean
 
   pub written_reads : Lawful m → (size n : ℕ) (s : Slot C) → Sized (slot_fields m s) → slot_fits m size n s ≡ true
       → read_slot m size n (slot_bytes m s) ≡ Ok s
   written_reads law size n s sized fit =
       let f = slot_fields m s in
-      let r = rowed m s in
-      let inside : in_range_by size n f (Some r.row) ≡ true = ap (in_range_by size n f) (sym r.at) ∙ fit in
+      let t = told m law s in
+      let done = is_done (checked size n f) (checked_when size n f ∙ and_from _ _ t.clean fit) in
       ap (λ (g : Fields). read_slot m size n (laid_out g)) (all_used law s)
-      ∙ (ap (read_by m size n (laid_out f)) r.at
-      ∙ (cond-true (padding_zero (laid_out f)) _ _ (padding_laid_out f sized)
-      ∙ (ap (λ (g : Fields). or_slot (misfit_of size n r.row g) (slot_of m g)) (fields_laid_out f sized)
-      ∙ rw (no_misfit size n r.row f r.clean inside, slot_of_fields m law s))))
+      ∙ rw (number_kind f.kind, padding_laid_out f sized)
+      (ap (λ (g : Fields). checked size n g >>= λ _. ok_or (slot_of m g) NotAChange) (fields_laid_out f sized) ∙ rw (done, t.gives))
 
   -- What reads is what is written
 
-  pub record Read (size n : ℕ) (b : List ℕ) (s : Slot C) : Type 0 where
-    pub row : Uses
-    pub at : uses_of (get_or b 0 0) ≡ Some row
-    pub padded : padding_zero b ≡ true
-    pub clean : unused_zero row (fields_of b) ≡ true
-    pub gives : slot_of m (fields_of b) ≡ Some s
-
-  answered : (w : Option Misfit) (o : Option (Slot C)) (s : Slot C) → or_slot w o ≡ Ok s → (w ≡ None) × (o ≡ Some s)
-  answered None None s e = let z : ◌≡◌ {A = ℕ} 0 1 = cc in absurd (omega arith)
-  answered None (Some t) s e = (refl, cc)
-  answered (Some w) o s e = let z : ◌≡◌ {A = ℕ} 0 1 = cc in absurd (omega arith)
-
-  clean_from : (t : Bool) (why : Misfit) (w : Option Misfit) → cond t w (Some why) ≡ None → t ≡ true
-  clean_from true why w e = refl
-  clean_from false why w e = let z : ◌≡◌ {A = ℕ} 0 1 = cc in absurd (omega arith)
-
-  module _ (size n : ℕ) (b : List ℕ) (s : Slot C) where
-    by_row : (w : Option Uses) → uses_of (get_or b 0 0) ≡ w → (t : Bool) → padding_zero b ≡ t → read_by m size n b w ≡ Ok s → Read size n b s
-    by_row None e t p r = let z : ◌≡◌ {A = ℕ} 0 1 = cc in absurd (omega arith)
-    by_row (Some u) e false p r = let q = rw p at r in let z : ◌≡◌ {A = ℕ} 0 1 = cc in absurd (omega arith)
-    by_row (Some u) e true p r =
-        let a = answered (misfit_of size n u (fields_of b)) (slot_of m (fields_of b)) s (rw p at r) in
-        record { row = u; at = e; padded = p; clean = clean_from (unused_zero u (fields_of b)) _ _ a.0; gives = a.1 }
-
-    pub reads : read_slot m size n b ≡ Ok s → Read size n b s
-    reads r = by_row (uses_of (get_or b 0 0)) refl (padding_zero b) refl r
-
-    read_written : Lawful m → Bytes 60 b → read_slot m size n b ≡ Ok s → slot_bytes m s ≡ b
-    read_written law h r =
-        let q = reads r in
-        let long : length (take 40 (drop 16 b)) ≡ 40 = length-take-le 40 (drop 16 b) (rw (length-drop 16 b) (omega arith)) in
-        let same = fields_of_slot m law (fields_of b) q.row s (get_or b 0 0) refl q.at q.gives ∙ only_clean q.row (fields_of b) long q.clean in
-        ap laid_out (all_used law s ∙ same) ∙ laid_out_fields b h q.padded
-
-  pub answer_written : Lawful m → (size n : ℕ) (b : List ℕ) → Bytes 60 b → (r : Result (Slot C) Misfit) → r ≡ read_slot m size n b
-      → IfOk r (λ s. slot_bytes m s ≡ b)
-  answer_written law size n b h (Ok s) e = read_written size n b s law h (sym e)
-  answer_written law size n b h (Err why) e = tt
-
-  -- Exactly what fits reads
-
-  -- the tests one after the other, and all at once
-  tests : (p z a j l k : Bool) (v w x y : Misfit) (o : Option (Slot C))
-      → is_ok (cond p (or_slot (unless z UnusedNotZero (unless a v (unless j w (unless l x (unless k y None))))) o) (Err UnusedNotZero))
-      ≡ (p && (z && ((a && (j && (l && k))) && is_some o)))
-  tests false z a j l k v w x y o = refl
-  tests true false a j l k v w x y o = refl
-  tests true true false j l k v w x y o = refl
-  tests true true true false l k v w x y o = refl
-  tests true true true true false k v w x y o = refl
-  tests true true true true true false v w x y o = refl
-  tests true true true true true true v w x y None = refl
-  tests true true true true true true v w x y (Some s) = refl
-
   module _ (size n : ℕ) (b : List ℕ) where
-    fits_row : (w : Option Uses) → uses_of (get_or b 0 0) ≡ w → is_ok (read_by m size n b w) ≡ fits_by m size n b w
-    fits_row None e = refl
-    fits_row (Some u) e =
-        let f = fields_of b in
-        tests (padding_zero b) (unused_zero u f) (page_fits size u f) (job_fits n u f) (lrc_fits u f) (link_fits n u f) _ _ _ _ (slot_of m f)
-        ∙ rw (e, has_slot m f u (get_or b 0 0) e)
+    -- what was found where the bytes read
+    abbrev pub Read : Slot C → Type 0
+    Read s = Found (UnknownKind (get_or b 0 0)) (padding_zero b) (λ k. fields_of k b) (checked size n) (slot_of m) (kind_numbered (get_or b 0 0)) s
+
+    pub reads : (s : Slot C) → read_slot m size n b ≡ Ok s → Read s
+    reads s r = found (UnknownKind (get_or b 0 0)) (padding_zero b) (λ k. fields_of k b) (checked size n) (slot_of m) (kind_numbered (get_or b 0 0)) s r
+
+    pub read_parts : (s : Slot C) (q : Read s) → (unused_zero (uses_of q.kind) (fields_of q.kind b) ≡ true) × (in_range size n (fields_of q.kind b) ≡ true)
+    read_parts s q = let f = fields_of q.kind b in and_parts _ _ (sym (checked_when size n f) ∙ ap is_ok q.check_is)
+
+    read_written : Lawful m → (s : Slot C) → Bytes 60 b → read_slot m size n b ≡ Ok s → slot_bytes m s ≡ b
+    read_written law s h r =
+        let q = reads s r in
+        let f = fields_of q.kind b in
+        let long : length (take 40 (drop 16 b)) ≡ 40 = length-take-le 40 (drop 16 b) (rw (length-drop 16 b) (omega arith)) in
+        ap laid_out (all_used law s ∙ (fields_of_slot m law f s q.slot_is ∙ only_clean f long (read_parts s q).0))
+        ∙ laid_out_fields q.kind b h q.padding (numbered_kind (get_or b 0 0) q.kind q.kind_is)
+
+    pub answer_written : Lawful m → Bytes 60 b → (r : Result (Slot C) Misfit) → r ≡ read_slot m size n b → IfOk r (λ s. slot_bytes m s ≡ b)
+    answer_written law h (Ok s) e = read_written law s h (sym e)
+    answer_written law h (Err why) e = tt
+
+    -- Exactly what fits reads
 
     pub reads_fit : is_ok (read_slot m size n b) ≡ fits m size n b
-    reads_fit = fits_row (uses_of (get_or b 0 0)) refl
+    reads_fit =
+        let o = kind_numbered (get_or b 0 0) in
+        found_when (UnknownKind (get_or b 0 0)) (padding_zero b) (λ k. fields_of k b) (checked size n) (slot_of m) o
+        ∙ (λ i. option_map_or (λ (k : SlotKind). padding_zero b && (checked_when size n (fields_of k b) i && has_slot m (fields_of k b) k i)) o false)
+        ∙ (λ i. option_map_or (λ (k : SlotKind). padding_zero b && and_assoc (unused_zero (uses_of k) (fields_of k b)) (in_range size n (fields_of k b)) (change_fits m (uses_of k) (fields_of k b)) i) o false)

@@ -1,27 +1,15 @@
 -- The fields of 60 bytes, read and laid out again. Assumes nothing.
-use Rattle.std.proofs.Common.{◌≡◌, ℕ, ◌-◌, ◌≤◌, true, false, List, [], ◌∷◌, ◌++◌, length, get_or, take, drop, sym, ap, ◌∙◌, arith, lit≤}
+use Rattle.std.proofs.Common.{◌≡◌, ℕ, ◌-◌, ◌≤◌, true, List, [], ◌∷◌, ◌++◌, get_or, take, drop, sym, ap, ◌∙◌, arith, lit≤}
 use Rattle.std.proofs.lemmas.Bool.Decides.{nat_tests}
-use Rattle.std.proofs.lemmas.List.{take_rest, drop-drop, take_at, take-append-drop, drop_more, drop_all, get_or-append_right}
+use Rattle.std.proofs.lemmas.List.{drop-drop, take_at, take-append-drop, drop_more, drop_all, get_or-append_right}
+use Rattle.format.specs.declared.slot.kind.SlotKind.{SlotKind}
 use Rattle.format.specs.declared.slot.fields.Fields.{Fields}
 use Rattle.format.specs.Bytes.{Bytes, number_at, spelled}
-use Rattle.format.specs.Slots.{fields_of, padding_zero, laid_out, Sized}
-use Rattle.format.proofs.Numbers.{number_rest, number_spelled, spelled_at}
-
--- what a slice pattern leaves behind the first four bytes
-abbrev pub behind : List ℕ → List ℕ
-behind b = take (length b - 4) (drop 4 b)
-
-pub padding_bad : (b : List ℕ) (t : ℕ) → t ≡ number_at (behind b) 52 → (t ≡ 0 → ⊥) → padding_zero b ≡ false
-padding_bad b t e ne = let r = number_rest b 4 52 in grind (arith, nat_tests)
-
-pub padding_good : (b : List ℕ) (t : ℕ) → get_or b 2 0 ≡ 0 → get_or b 3 0 ≡ 0 → t ≡ number_at (behind b) 52 → t ≡ 0 → padding_zero b ≡ true
-padding_good b t two three e z = let r = number_rest b 4 52 in grind (arith, nat_tests)
-
-pub change_behind : (b : List ℕ) → take 40 (drop 12 (behind b)) ≡ take 40 (drop 16 b)
-change_behind b = rw (take_rest b 4, drop-drop 12 4 b)
+use Rattle.format.specs.Slots.{kind_number, fields_of, padding_zero, laid_out, Sized}
+use Rattle.format.proofs.Numbers.{number_spelled, spelled_at}
 
 -- laid out, then read
-pub fields_laid_out : (f : Fields) → Sized f → fields_of (laid_out f) ≡ f
+pub fields_laid_out : (f : Fields) → Sized f → fields_of f.kind (laid_out f) ≡ f
 fields_laid_out f h =
     let j = number_spelled f.job h.job in
     let l = number_spelled f.lrc h.lrc in
@@ -39,8 +27,8 @@ padding_laid_out f h = rw (past 40 (lit≤ tt), past 41 (lit≤ tt), past 42 (li
     past i le = get_or-append_right f.change (0 ∷ 0 ∷ 0 ∷ 0 ∷ []) 40 i 0 h.change le
 
 -- read, then laid out
-pub laid_out_fields : (b : List ℕ) → Bytes 60 b → padding_zero b ≡ true → laid_out (fields_of b) ≡ b
-laid_out_fields b h p =
+pub laid_out_fields : (k : SlotKind) (b : List ℕ) → Bytes 60 b → padding_zero b ≡ true → kind_number k ≡ get_or b 0 0 → laid_out (fields_of k b) ≡ b
+laid_out_fields k b h p first =
     let z = padding_parts b p in
     let s0 = drop_more b 0 0 (omega arith) in
     let s1 = drop_more b 1 0 (omega arith) in

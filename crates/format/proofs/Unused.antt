@@ -1,18 +1,19 @@
--- All bytes that a kind does not use are zero: a test over the whole table of kinds, and the lemma that carries it to every slot.
+-- All bytes that a kind does not use are zero: a test of the whole table of kinds, and the lemma that carries it to every slot.
 -- Assumes nothing.
-use Rattle.std.proofs.Common.{◌≡◌, ℕ, zero, suc, ◌<◌, ◌≤◌, Bool, true, false, cond, not, ◌&&◌, ◌||◌, List, [], ◌∷◌, ◌++◌, length, get_or, replicate, Some, Option, unwrap_or, sym, refl, ap, ◌∙◌, subst, ⊎_elim, arith}
-use Rattle.std.specs.Option.{option_map}
-use Rattle.std.proofs.lemmas.Bool.{and_parts, cases_lt, true≢false, cond-false}
+use Rattle.std.proofs.Common.{◌≡◌, ℕ, zero, suc, ◌<◌, ◌≤◌, Bool, true, false, cond, List, [], ◌∷◌, ◌++◌, map, length, get_or, replicate, refl, ap, ◌∙◌, subst, ⊎_elim, zero-add}
+use Rattle.std.specs.List.{range_with_len}
+use Rattle.std.proofs.lemmas.Bool.{cases_lt, true≢false, cond-false}
 use Rattle.std.proofs.lemmas.List.{get_or_past}
+use Rattle.std.proofs.lemmas.List.FromFn.{get_or-map-range_with_len}
 use Rattle.format.specs.declared.slot.fields.Fields.{Fields}
 use Rattle.format.specs.declared.slot.fields.Uses.{Uses}
+use Rattle.format.specs.declared.slot.kind.SlotKind.{SlotKind}
+use Rattle.format.specs.declared.slot.kind.SlotKind.TheVariants as kind
 use Rattle.format.specs.declared.slot.Slot.{Slot}
-use Rattle.format.specs.declared.slot.Slot.TheVariants.{Record, Job, Checkpoint}
-use Rattle.format.specs.declared.slot.CheckpointPart.TheVariants.{Begin, DirtyPage, OpenJob, Complete}
 use Rattle.format.specs.Bytes.{spelled}
 use Rattle.format.specs.Changes.{Meaning, Lawful}
-use Rattle.format.proofs.ByKind.{rowed, change_length}
-use Rattle.format.specs.Slots.{kinds, nth, uses_of, uses_byte, kind_uses_byte, laid_out, only_by, no_change, kind_number, kind_of, slot_fields, slot_bytes}
+use Rattle.format.proofs.ByKind.{told}
+use Rattle.format.specs.Slots.{uses_of, kind_uses_byte, laid_out, only_used, no_change, kind_of, slot_fields, slot_bytes}
 
 -- The test
 
@@ -23,42 +24,23 @@ four u us = u ∷ u ∷ u ∷ u ∷ us
 abbrev stencil : Uses → List Bool
 stencil u = true ∷ u.page ∷ false ∷ false ∷ four u.job (four u.lrc (four u.link (replicate 40 u.change ++ four false [])))
 
--- the first n bytes that are written are used ones
-abbrev written_used : Uses → ℕ → Bool
-written_used u zero = true
-written_used u (suc n) = (not (get_or (stencil u) n false) || uses_byte u n) && written_used u n
+-- the bytes that are written are those that are used
+table : (k : SlotKind) → stencil (uses_of k) ≡ map (kind_uses_byte k) (range_with_len 0 60)
+table kind.Open = refl
+table kind.Change = refl
+table kind.Compensation = refl
+table kind.Commit = refl
+table kind.End = refl
+table kind.CheckpointBegin = refl
+table kind.CheckpointPage = refl
+table kind.CheckpointJob = refl
+table kind.CheckpointEnd = refl
 
-abbrev every : {A : Type 0} → (A → Bool) → List A → Bool
-every f [] = true
-every f (x ∷ xs) = f x && every f xs
-
-table : every (λ u. written_used u 60) kinds ≡ true
-table = refl
-
--- From the table to each row and byte
-
-every_nth : {A : Type 0} (f : A → Bool) (xs : List A) (k : ℕ) (x : A) → every f xs ≡ true → nth xs k ≡ Some x → f x ≡ true
-every_nth f [] k x t e = let z : ◌≡◌ {A = ℕ} 0 1 = cc in absurd (omega arith)
-every_nth f (y ∷ xs) zero x t e = let p : y ≡ x = cc in subst (λ (v : _). f v ≡ true) p (and_parts (f y) (every f xs) t).0
-every_nth f (y ∷ xs) (suc k) x t e = every_nth f xs k x (and_parts (f y) (every f xs) t).1 e
-
-row_tested : (k : ℕ) (u : Uses) → uses_of k ≡ Some u → written_used u 60 ≡ true
-row_tested zero u e = let z : ◌≡◌ {A = ℕ} 0 1 = cc in absurd (omega arith)
-row_tested (suc k) u e = every_nth (λ v. written_used v 60) kinds k u table e
-
-byte_tested : (u : Uses) (n i : ℕ) → written_used u n ≡ true → i < n → uses_byte u i ≡ false → get_or (stencil u) i false ≡ false
-byte_tested u zero i t h e = absurd (omega arith)
-byte_tested u (suc n) i t h e = ⊎_elim
-    (λ (lt : i < n). byte_tested u n i p.1 lt e)
-    (λ (le : n ≤ i). let same : n ≡ i = omega arith in off (get_or (stencil u) i false) (uses_byte u i) (subst (λ (j : ℕ). (not (get_or (stencil u) j false) || uses_byte u j) ≡ true) same p.0) e)
-    (cases_lt i n)
-  where
-    p : ((not (get_or (stencil u) n false) || uses_byte u n) ≡ true) × (written_used u n ≡ true)
-    p = and_parts _ _ t
-
-    off : (a b : Bool) → (not a || b) ≡ true → b ≡ false → a ≡ false
-    off true b h z = sym h ∙ z
-    off false b h z = refl
+not_written : (k : SlotKind) (i : ℕ) → kind_uses_byte k i ≡ false → get_or (stencil (uses_of k)) i false ≡ false
+not_written k i e = ⊎_elim
+    (λ (lt : i < 60). ap (λ (us : List Bool). get_or us i false) (table k) ∙ (get_or-map-range_with_len (kind_uses_byte k) 0 60 i i false lt (zero-add i) ∙ e))
+    (λ (le : 60 ≤ i). get_or_past (stencil (uses_of k)) i false le)
+    (cases_lt i 60)
 
 -- What a row does not write is zero
 
@@ -95,32 +77,18 @@ clean_change : (u : Bool) (ys : List ℕ) {us : List Bool} {xs : List ℕ} → l
 clean_change true ys {us} {xs} long c = subst (λ (n : ℕ). Clean (replicate n true ++ us) (ys ++ xs)) long (clean_used ys c)
 clean_change false ys long c = clean_zeros 40 c
 
-laid_clean : (u : Uses) (f : Fields) → length f.change ≡ 40 → Clean (stencil u) (laid_out (only_by (Some u) f))
-laid_clean u f long =
+laid_clean : (f : Fields) → length f.change ≡ 40 → Clean (stencil (uses_of f.kind)) (laid_out (only_used f))
+laid_clean f long =
+    let u = uses_of f.kind in
     used (more (cond-false u.page f.page 0) (unused (unused
     (clean_four u.job f.job (clean_four u.lrc f.lrc (clean_four u.link f.link
     (clean_change u.change f.change long (clean_four false 0 none))))))))
 
 -- Every slot
 
-kind_field : {C : Type 0} (m : Meaning C) (s : Slot C) → (slot_fields m s).kind ≡ kind_number (kind_of s)
-kind_field m (Record r) = refl
-kind_field m (Job e j) = refl
-kind_field m (Checkpoint Begin) = refl
-kind_field m (Checkpoint (DirtyPage p s)) = refl
-kind_field m (Checkpoint (OpenJob j n)) = refl
-kind_field m (Checkpoint (Complete b)) = refl
-
-pub unused_byte : {C : Type 0} (m : Meaning C) → Lawful m → (s : Slot C) (i : ℕ) → kind_uses_byte (kind_number (kind_of s)) i ≡ false
+pub unused_byte : {C : Type 0} (m : Meaning C) → Lawful m → (s : Slot C) (i : ℕ) → kind_uses_byte (kind_of s) i ≡ false
     → get_or (slot_bytes m s) i 0 ≡ 0
 unused_byte m law s i free =
     let f = slot_fields m s in
-    let r = rowed m s in
-    let u = r.row in
-    let row : uses_of (kind_number (kind_of s)) ≡ Some u = ap uses_of (sym (kind_field m s)) ∙ r.at in
-    let off : uses_byte u i ≡ false = ap (λ (w : Option Uses). unwrap_or (option_map (λ v. uses_byte v i) w) false) (sym row) ∙ free in
-    let clear : get_or (stencil u) i false ≡ false = ⊎_elim
-    (λ (lt : i < 60). byte_tested u 60 i (row_tested (kind_number (kind_of s)) u row) lt off)
-    (λ (le : 60 ≤ i). get_or_past (stencil u) i false le) (cases_lt i 60) in
-    ap (λ (w : Option Uses). get_or (laid_out (only_by w f)) i 0) r.at
-    ∙ clean_at (laid_clean u f (change_length m law s)) i clear
+    let t = told m law s in
+    clean_at (laid_clean f t.long) i (not_written f.kind i (ap (λ (k : SlotKind). kind_uses_byte k i) t.kind ∙ free))

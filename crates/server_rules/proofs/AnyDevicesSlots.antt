@@ -1,7 +1,7 @@
 -- Slots over any bytes: what is read fits, what a slot that fits may say, which slots read back, and what holds of each slot of a log.
-use Rattle.std.proofs.Common.{◌≡◌, ℕ, ◌<◌, ◌≤◌, Bool, true, false, cond, not, ◌&&◌, ◌||◌, eqb, ltb, leb, List, [], ◌∷◌, length, get_or, is_ok, Some, None, Ok, Err, Option, Result, sym, refl, ap, ◌∙◌, subst, arith}
+use Rattle.std.proofs.Common.{◌≡◌, ℕ, ◌<◌, ◌≤◌, Bool, true, false, cond, ◌&&◌, eqb, ltb, leb, List, [], ◌∷◌, length, Some, None, Ok, Err, Option, Result, sym, refl, ap, ◌∙◌, subst, arith}
 use Rattle.std.specs.Result.{result_ok}
-use Rattle.std.proofs.lemmas.Bool.{true≢false, and_parts, eqb-true, eq-eqb, le-leb, lt-ltb}
+use Rattle.std.proofs.lemmas.Bool.{true≢false, eqb-true, eq-eqb, le-leb, lt-ltb}
 use Rattle.std.proofs.lemmas.Bool.Decides.{nat_tests}
 use Rattle.format.specs.declared.slot.Slot.{Slot}
 use Rattle.format.specs.declared.slot.Slot.TheVariants.{Record, Job, Checkpoint}
@@ -13,9 +13,9 @@ use Rattle.format.specs.declared.slot.JobEvent.TheVariants.{Open, Commit, End}
 use Rattle.format.specs.declared.slot.CheckpointPart.TheVariants.{Begin, DirtyPage, OpenJob, Complete}
 use Rattle.format.specs.declared.slot.Misfit.{Misfit}
 use Rattle.format.specs.Changes.{Meaning, Lawful}
-use Rattle.format.specs.Slots.{fields_of, padding_zero, unused_zero, change_fits, in_range, in_range_by, fits, fits_by, only_by, slot_fits, slot_bytes, read_slot}
+use Rattle.format.specs.Slots.{fields_of, in_range, slot_fits, slot_bytes, read_slot}
 use Rattle.format.proofs.ByKind.{fields_of_slot}
-use Rattle.format.proofs.Encoding.{written_reads, reads, reads_fit}
+use Rattle.format.proofs.Encoding.{used_in_range, written_reads, reads, read_parts}
 use Rattle.recovery_log.specs.Log.{Log, new_number, opens}
 use Rattle.rules.specs.Reading.{slot_at, read_on, known, at}
 
@@ -46,30 +46,12 @@ module _ {C : Type 0} where
 
 -- What is read fits
 
-not_used : (u : Bool) (x : ℕ) (t : ℕ → Bool) → (not u || t (cond u x 0)) ≡ (not u || t x)
-not_used true x t = refl
-not_used false x t = refl
-
 module _ {C : Type 0} (m : Meaning C) (law : Lawful m) where
   pub read_fits : (size n : ℕ) (b : List ℕ) (s : Slot C) → read_slot m size n b ≡ Ok s → slot_fits m size n s ≡ true
   read_fits size n b s e =
       let r = reads m size n b s e in
-      let f = fields_of b in
-      let fit : fits m size n b ≡ true = sym (reads_fit m size n b) ∙ ap is_ok e in
-      let row : fits_by m size n b (Some r.row) ≡ true = ap (fits_by m size n b) (sym r.at) ∙ fit in
-      let p1 = and_parts (padding_zero b) (unused_zero r.row f && (in_range size n f && change_fits m r.row f)) row in
-      let p2 = and_parts (unused_zero r.row f) (in_range size n f && change_fits m r.row f) p1.1 in
-      let p3 = and_parts (in_range size n f) (change_fits m r.row f) p2.1 in
-      let inside : in_range_by size n f (Some r.row) ≡ true = ap (in_range_by size n f) (sym r.at) ∙ p3.0 in
-      let same = fields_of_slot m law f r.row s (get_or b 0 0) refl r.at r.gives in
-      -- only the fields that the kind uses count
-      let page = not_used r.row.page f.page (λ x. ltb x size) in
-      let job = not_used r.row.job f.job (λ x. leb 1 x && (leb x n && (not (eqb f.kind 1) || eqb x n))) in
-      let lrc = not_used r.row.lrc f.lrc (λ x. leb 1 x) in
-      let link = not_used r.row.link f.link (λ x. ltb x n && (not (eqb f.kind 7 || eqb f.kind 9) || leb 1 x)) in
-      let used : in_range_by size n (only_by (Some r.row) f) (Some r.row) ≡ in_range_by size n f (Some r.row)
-      = λ i. page i && (job i && (lrc i && link i)) in
-      ap (in_range size n) same ∙ (ap (in_range_by size n (only_by (Some r.row) f)) r.at ∙ (used ∙ inside))
+      let f = fields_of r.kind b in
+      ap (in_range size n) (fields_of_slot m law f s r.slot_is) ∙ (used_in_range size n f ∙ (read_parts m size n b s r).1)
 
   -- of each slot that is read
   abbrev pub Fits : ℕ → ℕ → Option (Slot C) → Type 0
@@ -103,7 +85,7 @@ module _ {C : Type 0} (m : Meaning C) (size n : ℕ) where
   pub record_inside : (r : PageRecord C) → slot_fits m size n (Record r) ≡ true → Inside size n r
   record_inside r h = go r.action r.page r.job r.lrc r.link r.change h
     where
-      parts : (p j l k : ℕ) → (ltb p size && ((leb 1 j && (leb j n && true)) && (leb 1 l && (ltb k n && true)))) ≡ true
+      parts : (p j l k : ℕ) → (ltb p size && ((leb 1 j && leb j n) && (leb 1 l && (leb 0 k && ltb k n)))) ≡ true
           → (p < size) × (1 ≤ j) × (j ≤ n) × (1 ≤ l) × (k < n)
       parts p j l k e = (grind (arith, nat_tests), grind (arith, nat_tests), grind (arith, nat_tests), grind (arith, nat_tests), grind (arith, nat_tests))
 
@@ -134,12 +116,12 @@ module _ {C : Type 0} (m : Meaning C) (law : Lawful m) (size n : ℕ) (few : n �
     where
       go : (a : Action) (p j l k : ℕ) (c : C) → p < size → 1 ≤ j → j ≤ n → 1 ≤ l → k < n
           → slot_fits m size n (Record (record { action = a; page = p; job = j; lrc = l; link = k; change = c })) ≡ true
-      go Put p j l k c hp h1 hj hl hk = rw (lt-ltb p size hp, le-leb 1 j h1, le-leb j n hj, le-leb 1 l hl, lt-ltb k n hk)
-      go TakeBack p j l k c hp h1 hj hl hk = rw (lt-ltb p size hp, le-leb 1 j h1, le-leb j n hj, le-leb 1 l hl, lt-ltb k n hk)
+      go Put p j l k c hp h1 hj hl hk = rw (lt-ltb p size hp, le-leb 1 j h1, le-leb j n hj, le-leb 1 l hl, le-leb 0 k (omega arith), lt-ltb k n hk)
+      go TakeBack p j l k c hp h1 hj hl hk = rw (lt-ltb p size hp, le-leb 1 j h1, le-leb j n hj, le-leb 1 l hl, le-leb 0 k (omega arith), lt-ltb k n hk)
 
   pub open_reads : (j : ℕ) → j ≡ n → 1 ≤ j → read_slot m size n (slot_bytes m (Job Open j)) ≡ Ok (Job Open j)
   open_reads j own one = written_reads m law size n (Job Open j) (record { job = omega arith; lrc = omega arith; link = omega arith; change = refl })
-      (rw (le-leb 1 j one, le-leb j n (omega arith), eq-eqb j n own))
+      (rw (le-leb 1 j one, eq-eqb j n own))
 
   pub closed_reads : (e : JobEvent) (j : ℕ) → opens e ≡ false → 1 ≤ j → j ≤ n → read_slot m size n (slot_bytes m (Job e j)) ≡ Ok (Job e j)
   closed_reads e j c one le = written_reads m law size n (Job e j) (record { job = omega arith; lrc = omega arith; link = omega arith; change = refl }) (go e c)
@@ -158,7 +140,7 @@ module _ {C : Type 0} (m : Meaning C) (law : Lawful m) (size n : ℕ) (few : n �
 
   pub job_reads : (j k : ℕ) → 1 ≤ j → j ≤ n → k < n → read_slot m size n (slot_bytes m (Checkpoint (OpenJob j k))) ≡ Ok (Checkpoint (OpenJob j k))
   job_reads j k one le lt = written_reads m law size n (Checkpoint (OpenJob j k)) (record { job = omega arith; lrc = omega arith; link = omega arith; change = refl })
-      (rw (le-leb 1 j one, le-leb j n le, lt-ltb k n lt))
+      (rw (le-leb 1 j one, le-leb j n le, le-leb 0 k (omega arith), lt-ltb k n lt))
 
   pub complete_reads : (b : ℕ) → 1 ≤ b → b < n → read_slot m size n (slot_bytes m (Checkpoint (Complete b))) ≡ Ok (Checkpoint (Complete b))
   complete_reads b one lt = written_reads m law size n (Checkpoint (Complete b)) (record { job = omega arith; lrc = omega arith; link = omega arith; change = refl })

@@ -1,21 +1,21 @@
 -- What the bytes of a log say: of a log with one more slot, of a log that lost its newest slots, of the devices after an append or a force,
 -- and where the search for the last end of a checkpoint ends. Assumes nothing.
 use Rattle.std.proofs.Common.{◌≡◌, ℕ, zero, suc, ◌+◌, ◌<◌, ◌≤◌, Bool, true, false, cond, eqb, ltb, ◌⊎◌, List, [], ◌∷◌, ◌++◌, length, get_or, take, is_some, is_ok, Some, None, Ok, Err, Option, Result, sym, refl, ap, ◌∙◌, subst, inl, inr, arith, length-append}
-use Rattle.std.specs.Option.{option_map}
 use Rattle.std.specs.Result.{result_ok}
 use Rattle.std.proofs.lemmas.List.{length-take-le}
 use Rattle.std.proofs.lemmas.Bool.{eqb-true, eqb-false, eq-eqb, ne_eqb, lt-leb, le-ltb, cond_both}
 use Rattle.std.proofs.lemmas.Bool.Decides.{nat_tests}
 use Rattle.format.specs.declared.slot.Slot.{Slot}
 use Rattle.format.specs.declared.slot.Slot.TheVariants.{Checkpoint}
-use Rattle.format.specs.declared.slot.Action.{Action}
-use Rattle.format.specs.declared.slot.Action.TheVariants.{Put, TakeBack}
-use Rattle.format.specs.declared.slot.CheckpointPart.{CheckpointPart}
+use Rattle.format.specs.declared.slot.kind.SlotKind.{SlotKind}
+use Rattle.format.specs.declared.slot.kind.SlotKind.TheVariants.{CheckpointEnd}
 use Rattle.format.specs.declared.slot.CheckpointPart.TheVariants.{Complete}
 use Rattle.format.specs.declared.slot.Misfit.{Misfit}
+use Rattle.format.specs.Bytes.{number_at}
 use Rattle.format.specs.Changes.{Meaning}
-use Rattle.format.specs.Slots.{read_slot, fields_of, flat, at_kind, by_kind, record_of}
-use Rattle.format.proofs.Encoding.{reads}
+use Rattle.format.specs.Slots.{kind_number, kind_numbered, read_slot, fields_of, slot_by}
+use Rattle.format.proofs.ByKind.{numbered_kind, kind_of_slot}
+use Rattle.format.proofs.Encoding.{Read, reads}
 use Rattle.device.specs.declared.log_store.LogFault.{LogFault}
 use Rattle.device.specs.declared.log_store.LogFault.TheVariants.{PowerLost, Full}
 use Rattle.device.specs.LogStores.{LogModel, SlotAppended, LogForced, state}
@@ -247,20 +247,23 @@ module _ {C : Type 0} (m : Meaning C) where
 
   -- The search for a checkpoint's end
 
-  -- what bytes are read as is what their fields say under their kind
-  said : (size n : ℕ) (b : List ℕ) (s : Slot C) → result_ok (read_slot m size n b) ≡ Some s
-      → flat (at_kind (by_kind m (fields_of b)) (get_or b 0 0)) ≡ Some s
+  -- what bytes are read as is what was found in them
+  said : (size n : ℕ) (b : List ℕ) (s : Slot C) → result_ok (read_slot m size n b) ≡ Some s → Read m size n b s
   said size n b s e = go (read_slot m size n b) refl
     where
-      go : (r : Result (Slot C) Misfit) → read_slot m size n b ≡ r → flat (at_kind (by_kind m (fields_of b)) (get_or b 0 0)) ≡ Some s
-      go (Ok t) q = (reads m size n b t q).gives ∙ (sym (ap result_ok q) ∙ e)
+      go : (r : Result (Slot C) Misfit) → read_slot m size n b ≡ r → Read m size n b s
+      go (Ok t) q = reads m size n b s (q ∙ cc (ap result_ok q))
       go (Err why) q = let z : ◌≡◌ {A = ℕ} 0 1 = cc (ap result_ok q) in absurd (omega arith)
 
   -- bytes of kind 9 that read are an end
   end_read : (size n : ℕ) (b : List ℕ) (x : Option (Slot C)) → get_or b 0 0 ≡ 9 → result_ok (read_slot m size n b) ≡ x → is_some x ≡ true
-      → x ≡ Some (Checkpoint (Complete (fields_of b).link))
+      → x ≡ Some (Checkpoint (Complete (number_at b 12)))
   end_read size n b None e q h = let z : ◌≡◌ {A = ℕ} 0 1 = cc in absurd (omega arith)
-  end_read size n b (Some s) e q h = sym (said size n b s q) ∙ ap (λ (k : ℕ). flat (at_kind (by_kind m (fields_of b)) k)) e
+  end_read size n b (Some s) e q h =
+      let r = said size n b s q in
+      let same : ◌≡◌ {A = Option SlotKind} (Some CheckpointEnd) (Some r.kind) = ap kind_numbered (sym e) ∙ r.kind_is in
+      let end : CheckpointEnd ≡ r.kind = cc in
+      sym r.slot_is ∙ ap (λ (k : SlotKind). slot_by m (fields_of k b) k) (sym end)
 
   abbrev EndAt : Log C → ℕ → Type 0
   EndAt L e = (e ≡ 0) ⊎ ((b : ℕ) × (at L e ≡ Some (Checkpoint (Complete b))))
@@ -271,7 +274,7 @@ module _ {C : Type 0} (m : Meaning C) where
     end_step L b found true e h le was =
         let x = slot_at m size 1 (new_number L) b in
         let here : at (x ∷ L) (new_number L) ≡ x = rw (eq-eqb (suc (length L)) (suc (length L)) refl) in
-        inr ((fields_of b).link, here ∙ end_read size (new_number L) b x (eqb-true (get_or b 0 0) 9 e) (sym (slot_first size (length L) b)) h)
+        inr (number_at b 12, here ∙ end_read size (new_number L) b x (eqb-true (get_or b 0 0) 9 e) (sym (slot_first size (length L) b)) h)
     end_step L b found false e h le (inl z) = inl z
     end_step L b found false e h le (inr (y, q)) = inr (y, at_more found (slot_at m size 1 (new_number L) b) L le ∙ q)
 
@@ -295,22 +298,10 @@ module _ {C : Type 0} (m : Meaning C) where
 
   -- An end has kind 9
 
-  no_record : (a : Action) (f : List ℕ) (o : Option C) (c : CheckpointPart) → option_map (record_of a (fields_of f)) o ≡ Some (Checkpoint c) → ⊥
-  no_record a f None c e = let z : ◌≡◌ {A = ℕ} 0 1 = cc in omega arith
-  no_record a f (Some x) c e = let z : ◌≡◌ {A = ℕ} 0 1 = cc in omega arith
-
-  kind_of_end : (f : List ℕ) (b k : ℕ) → flat (at_kind (by_kind m (fields_of f)) k) ≡ Some (Checkpoint (Complete b)) → k ≡ 9
-  kind_of_end f b zero e = let z : ◌≡◌ {A = ℕ} 0 1 = cc in absurd (omega arith)
-  kind_of_end f b (suc zero) e = let z : ◌≡◌ {A = ℕ} 0 1 = cc in absurd (omega arith)
-  kind_of_end f b (suc (suc zero)) e = absurd (no_record Put f _ _ e)
-  kind_of_end f b (suc (suc (suc zero))) e = absurd (no_record TakeBack f _ _ e)
-  kind_of_end f b (suc (suc (suc (suc zero)))) e = let z : ◌≡◌ {A = ℕ} 0 1 = cc in absurd (omega arith)
-  kind_of_end f b (suc (suc (suc (suc (suc zero))))) e = let z : ◌≡◌ {A = ℕ} 0 1 = cc in absurd (omega arith)
-  kind_of_end f b (suc (suc (suc (suc (suc (suc zero)))))) e = let z : ◌≡◌ {A = ℕ} 0 1 = cc in absurd (omega arith)
-  kind_of_end f b (suc (suc (suc (suc (suc (suc (suc zero))))))) e = let z : ◌≡◌ {A = ℕ} 0 1 = cc in absurd (omega arith)
-  kind_of_end f b (suc (suc (suc (suc (suc (suc (suc (suc zero)))))))) e = let z : ◌≡◌ {A = ℕ} 0 1 = cc in absurd (omega arith)
-  kind_of_end f b (suc (suc (suc (suc (suc (suc (suc (suc (suc zero))))))))) e = refl
-  kind_of_end f b (suc (suc (suc (suc (suc (suc (suc (suc (suc (suc k)))))))))) e = let z : ◌≡◌ {A = ℕ} 0 1 = cc in absurd (omega arith)
+  end_of_kind : (size n : ℕ) (b : List ℕ) (y : ℕ) → Read m size n b (Checkpoint (Complete y)) → get_or b 0 0 ≡ 9
+  end_of_kind size n b y r =
+      sym (numbered_kind (get_or b 0 0) r.kind r.kind_is)
+      ∙ ap kind_number (sym (kind_of_slot m (fields_of r.kind b) (Checkpoint (Complete y)) r.kind r.slot_is))
 
   -- no end stands after a number
   abbrev NoneAfter : Log C → ℕ → Type 0
@@ -330,7 +321,7 @@ module _ {C : Type 0} (m : Meaning C) where
         go : (u : Bool) → eqb n (new_number L) ≡ u → ⊥
         go true f =
             let here : x ≡ Some (Checkpoint (Complete y)) = sym (ap (λ (v : Bool). cond v x (at L n)) f) ∙ q in
-            let nine = kind_of_end b y (get_or b 0 0) (said size (new_number L) b _ (sym (slot_first size (length L) b) ∙ here)) in
+            let nine = end_of_kind size (new_number L) b y (said size (new_number L) b _ (sym (slot_first size (length L) b) ∙ here)) in
             eqb-false (get_or b 0 0) 9 e nine
         go false f = was n y lt (sym (ap (λ (v : Bool). cond v x (at L n)) f) ∙ q)
 

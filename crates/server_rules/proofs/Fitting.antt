@@ -128,8 +128,8 @@ module _ {C : Type 0} (m : Meaning C) where
     }
       where
         go : (a : Action) → slot_fits m size n (Record (record { action = a; page = p; job = j; lrc = l; link = k; change = c })) ≡ true
-        go Put = rw (lt-ltb p size hp, le-leb 1 j h1, le-leb j n hj, le-leb 1 l hl, lt-ltb k n hk)
-        go TakeBack = rw (lt-ltb p size hp, le-leb 1 j h1, le-leb j n hj, le-leb 1 l hl, lt-ltb k n hk)
+        go Put = rw (lt-ltb p size hp, le-leb 1 j h1, le-leb j n hj, le-leb 1 l hl, le-leb 0 k (omega arith), lt-ltb k n hk)
+        go TakeBack = rw (lt-ltb p size hp, le-leb 1 j h1, le-leb j n hj, le-leb 1 l hl, le-leb 0 k (omega arith), lt-ltb k n hk)
 
     event_fit : (e : JobEvent) (j : ℕ) → 1 ≤ j → j ≤ n → (opens e ≡ true → j ≡ n) → Fit size n (Job e j)
     event_fit e j h1 hj own = record {
@@ -138,7 +138,7 @@ module _ {C : Type 0} (m : Meaning C) where
     }
       where
         go : (e : JobEvent) → (opens e ≡ true → j ≡ n) → slot_fits m size n (Job e j) ≡ true
-        go Open o = rw (le-leb 1 j h1, le-leb j n hj, eq-eqb j n (o refl))
+        go Open o = rw (le-leb 1 j h1, eq-eqb j n (o refl))
         go Commit o = rw (le-leb 1 j h1, le-leb j n hj)
         go End o = rw (le-leb 1 j h1, le-leb j n hj)
 
@@ -171,7 +171,7 @@ module _ {C : Type 0} (m : Meaning C) where
     }
     next_part (OpenJob j n) x = record {
       sized = record { job = omega arith; lrc = omega arith; link = omega arith; change = refl };
-      fits = rw (le-leb 1 j x.0, le-leb j (new_number L) (omega arith), lt-ltb n (new_number L) (omega arith));
+      fits = rw (le-leb 1 j x.0, le-leb j (new_number L) (omega arith), le-leb 0 n (omega arith), lt-ltb n (new_number L) (omega arith));
     }
     next_part (Complete b) x = record {
       sized = record { job = omega arith; lrc = omega arith; link = omega arith; change = refl };

@@ -1,14 +1,14 @@
-// The fields of a slot as they lie in its bytes, and the table of the nine kinds.
-ghost use Rattle.std.specs.Prelude.{◌≡◌, if◌then◌else◌, Some, None};
-ghost use Rattle.format.specs.Slots.{uses_of, fields_of, padding_zero, laid_out, unused_zero, job_fits, link_fits, misfit_of, only_used, Sized};
+// The fields of a slot as they lie in its bytes, and the table of the kinds and the fields that each uses.
+ghost use Rattle.std.specs.Prelude.{◌≡◌, replicate, if◌then◌else◌};
+ghost use Rattle.format.specs.Slots.{uses_of, fields, read_fields, laid_out, unused_zero, job_fits, link_fits, checked, only_used, Sized};
 
-use super::Misfit;
+use super::{Misfit, SlotKind};
 use crate::bytes::{all_zero, number_at};
 
 // Every field that some kind uses; a field that the slot's kind does not use is zero.
 #[derive(Clone, Copy)]
 pub(crate) struct Fields {
-    pub kind: u8,
+    pub kind: SlotKind,
     pub page: u8,
     pub job: u32,
     pub lrc: u32,
@@ -47,65 +47,70 @@ const RECORD: Uses = Uses {
     change: true,
 };
 
-// What each kind uses, from 1 on: open, change, compensation, commit, end, then a checkpoint's begin, page, job and end.
-const KINDS: [Uses; 9] = [
-    JOB,
-    RECORD,
-    RECORD,
-    JOB,
-    JOB,
-    NOTHING,
-    Uses {
-        page: true,
-        link: true,
-        ..NOTHING
-    },
-    Uses { link: true, ..JOB },
-    Uses {
-        link: true,
-        ..NOTHING
-    },
+// The kinds in the order of their numbers, each with the fields that it uses.
+const KINDS: [(SlotKind, Uses); 9] = [
+    (SlotKind::Open, JOB),
+    (SlotKind::Change, RECORD),
+    (SlotKind::Compensation, RECORD),
+    (SlotKind::Commit, JOB),
+    (SlotKind::End, JOB),
+    (SlotKind::CheckpointBegin, NOTHING),
+    (
+        SlotKind::CheckpointPage,
+        Uses {
+            page: true,
+            link: true,
+            ..NOTHING
+        },
+    ),
+    (SlotKind::CheckpointJob, Uses { link: true, ..JOB }),
+    (
+        SlotKind::CheckpointEnd,
+        Uses {
+            link: true,
+            ..NOTHING
+        },
+    ),
 ];
 
-// The table's row of a kind, from 1 to 9.
-pub(crate) fn uses_of(kind: u8) -> Option<Uses>
+fn uses_of(kind: SlotKind) -> Uses
     ensures { result ≡ uses_of kind }
 {
-    if kind == 0 || kind > 9 {
-        return None;
-    }
-    Some(KINDS[kind as usize - 1])
+    let (_, uses) = KINDS[kind as usize - 1];
+    uses
 }
 
 impl Fields {
-    // No field is used.
-    pub(crate) const ZERO: Fields = Fields {
-        kind: 0,
-        page: 0,
-        job: 0,
-        lrc: 0,
-        link: 0,
-        change: [0; 40],
-    };
-
-    // The fields of 60 bytes, or nothing where a byte that no kind uses is not zero.
-    pub(crate) fn read(bytes: &[u8; 60]) -> Option<Fields>
-        ensures { result ≡ (if padding_zero bytes.now then Some (fields_of bytes.now) else None) }
+    // A kind, and zero in every other field.
+    pub(crate) fn zero(kind: SlotKind) -> Fields
+        ensures { result ≡ fields kind 0 0 0 0 (replicate 40 0) }
     {
-        let [kind, page, 0, 0, rest @ ..] = &bytes[..] else {
-            return None;
-        };
-        if number_at(rest, 52) != 0 {
-            return None;
+        Fields {
+            kind,
+            page: 0,
+            job: 0,
+            lrc: 0,
+            link: 0,
+            change: [0; 40],
         }
+    }
+
+    // The fields of 60 bytes, where the bytes that no kind uses are zero.
+    pub(crate) fn read(bytes: &[u8; 60]) -> Result<Fields, Misfit>
+        ensures { result ≡ read_fields bytes.now }
+    {
+        let kind = SlotKind::try_from(bytes[0])?;
+        let [_, page, 0, 0, .., 0, 0, 0, 0] = &bytes[..] else {
+            return Err(Misfit::UnusedNotZero);
+        };
         let mut change = [0; 40];
-        change.copy_from_slice(&rest[12..52]);
-        Some(Fields {
-            kind: *kind,
+        change.copy_from_slice(&bytes[16..56]);
+        Ok(Fields {
+            kind,
             page: *page,
-            job: number_at(rest, 0),
-            lrc: number_at(rest, 4),
-            link: number_at(rest, 8),
+            job: number_at(bytes, 4),
+            lrc: number_at(bytes, 8),
+            link: number_at(bytes, 12),
             change,
         })
     }
@@ -124,13 +129,36 @@ impl Fields {
             change,
         } = *self;
         let mut bytes = [0; 60];
-        bytes[0] = kind;
+        bytes[0] = u8::from(kind);
         bytes[1] = page;
         bytes[4..8].copy_from_slice(&job.to_le_bytes());
         bytes[8..12].copy_from_slice(&lrc.to_le_bytes());
         bytes[12..16].copy_from_slice(&link.to_le_bytes());
         bytes[16..56].copy_from_slice(&change);
         bytes
+    }
+
+    // Whether the fields fit slot `number` of a log over `pages` pages, or the first thing by which they do not.
+    pub(crate) fn check(&self, number: u32, pages: u32) -> Result<(), Misfit>
+        ensures { result ≡ checked pages number self.now }
+    {
+        let uses = uses_of(self.kind);
+        if !self.unused_zero(uses) {
+            return Err(Misfit::UnusedNotZero);
+        }
+        if uses.page && u32::from(self.page) >= pages {
+            return Err(Misfit::PageOutside(self.page));
+        }
+        if !self.job_fits(uses, number) {
+            return Err(Misfit::JobOutside(self.job));
+        }
+        if uses.lrc && self.lrc < 1 {
+            return Err(Misfit::LrcZero);
+        }
+        if !self.link_fits(uses, number) {
+            return Err(Misfit::LinkOutside(self.link));
+        }
+        Ok(())
     }
 
     // Every field that the kind does not use is zero.
@@ -147,58 +175,42 @@ impl Fields {
     fn job_fits(&self, uses: Uses, number: u32) -> bool
         ensures { result ≡ job_fits number uses self.now }
     {
-        !uses.job || (1 <= self.job && self.job <= number && (self.kind != 1 || self.job == number))
+        !uses.job
+            || (1 <= self.job
+                && match self.kind {
+                    SlotKind::Open => self.job == number,
+                    _ => self.job <= number,
+                })
     }
 
     fn link_fits(&self, uses: Uses, number: u32) -> bool
         ensures { result ≡ link_fits number uses self.now }
     {
-        !uses.link
-            || (self.link < number && (!(self.kind == 7 || self.kind == 9) || 1 <= self.link))
-    }
-
-    // The first thing by which the fields do not fit slot `number` of a log over `pages` pages.
-    pub(crate) fn misfit(&self, uses: Uses, number: u32, pages: u32) -> Option<Misfit>
-        ensures { result ≡ misfit_of pages number uses self.now }
-    {
-        if !self.unused_zero(uses) {
-            return Some(Misfit::UnusedNotZero);
-        }
-        if uses.page && u32::from(self.page) >= pages {
-            return Some(Misfit::PageOutside(self.page));
-        }
-        if !self.job_fits(uses, number) {
-            return Some(Misfit::JobOutside(self.job));
-        }
-        if uses.lrc && self.lrc < 1 {
-            return Some(Misfit::LrcZero);
-        }
-        if !self.link_fits(uses, number) {
-            return Some(Misfit::LinkOutside(self.link));
-        }
-        None
+        let least = match self.kind {
+            SlotKind::CheckpointPage | SlotKind::CheckpointEnd => 1,
+            _ => 0,
+        };
+        !uses.link || (least <= self.link && self.link < number)
     }
 
     // The fields with zero in each that the kind does not use.
     pub(crate) fn only_used(self) -> Fields
         ensures { result ≡ only_used self }
     {
-        let Some(uses) = uses_of(self.kind) else {
-            return self;
-        };
+        let uses = uses_of(self.kind);
         Fields {
             kind: self.kind,
-            page: if uses.page { self.page } else { 0 },
-            job: number_if(uses.job, self.job),
-            lrc: number_if(uses.lrc, self.lrc),
-            link: number_if(uses.link, self.link),
-            change: if uses.change { self.change } else { [0; 40] },
+            page: if_used(uses.page, self.page, 0),
+            job: if_used(uses.job, self.job, 0),
+            lrc: if_used(uses.lrc, self.lrc, 0),
+            link: if_used(uses.link, self.link, 0),
+            change: if_used(uses.change, self.change, [0; 40]),
         }
     }
 }
 
-fn number_if(used: bool, number: u32) -> u32
-    ensures { result ≡ (if used then number else 0) }
+fn if_used<T: Copy>(used: bool, value: T, zero: T) -> T
+    ensures { result ≡ (if used then value else zero) }
 {
-    if used { number } else { 0 }
+    if used { value } else { zero }
 }

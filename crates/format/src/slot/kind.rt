@@ -8,15 +8,15 @@ use super::Misfit;
 
 #[derive(Clone, Copy, Debug, PartialEq, Eq, PartialOrd, Ord)]
 pub enum SlotKind {
-    Open,
-    Change,
-    Compensation,
-    Commit,
-    End,
-    CheckpointBegin,
-    CheckpointPage,
-    CheckpointJob,
-    CheckpointEnd,
+    Open = 1,
+    Change = 2,
+    Compensation = 3,
+    Commit = 4,
+    End = 5,
+    CheckpointBegin = 6,
+    CheckpointPage = 7,
+    CheckpointJob = 8,
+    CheckpointEnd = 9,
 }
 
 impl TryFrom<u8> for SlotKind {
@@ -44,16 +44,6 @@ impl From<SlotKind> for u8 {
     ghost from_gives = { λ kind number. number ≡ kind_number kind };
 
     fn from(kind: SlotKind) -> u8 {
-        match kind {
-            SlotKind::Open => 1,
-            SlotKind::Change => 2,
-            SlotKind::Compensation => 3,
-            SlotKind::Commit => 4,
-            SlotKind::End => 5,
-            SlotKind::CheckpointBegin => 6,
-            SlotKind::CheckpointPage => 7,
-            SlotKind::CheckpointJob => 8,
-            SlotKind::CheckpointEnd => 9,
-        }
+        kind as u8
     }
 }

@@ -1,9 +1,9 @@
 // Reads a slot from its 60 bytes, or says why they do not fit.
-ghost use Rattle.std.specs.Prelude.{◌≡◌, cond, is_ok, IfOk};
+ghost use Rattle.std.specs.Prelude.{◌≡◌, is_ok, IfOk};
 ghost use Rattle.format.specs.Slots.{slot_of, record_from, read_slot, fits, slot_bytes};
 
-use super::fields::{Fields, uses_of};
-use super::{Action, CheckpointPart, JobEvent, Misfit, PageRecord, Slot};
+use super::fields::Fields;
+use super::{Action, CheckpointPart, JobEvent, Misfit, PageRecord, Slot, SlotKind};
 use crate::Change;
 
 impl<C: Change> Slot<C> {
@@ -21,20 +21,9 @@ impl<C: Change> Slot<C> {
 fn decode<C: Change>(bytes: &[u8; 60], number: u32, pages: u32) -> Result<Slot<C>, Misfit>
     ensures { result ≡ read_slot C.Change.meaning pages number bytes.now }
 {
-    let kind = bytes[0];
-    let Some(uses) = uses_of(kind) else {
-        return Err(Misfit::UnknownKind(kind));
-    };
-    let Some(fields) = Fields::read(bytes) else {
-        return Err(Misfit::UnusedNotZero);
-    };
-    if let Some(why) = fields.misfit(uses, number, pages) {
-        return Err(why);
-    }
-    match slot(&fields) {
-        Some(slot) => Ok(slot),
-        None => Err(Misfit::NotAChange),
-    }
+    let fields = Fields::read(bytes)?;
+    fields.check(number, pages)?;
+    slot(&fields).ok_or(Misfit::NotAChange)
 }
 
 // The slot that the fields give, where their change is one.
@@ -44,28 +33,29 @@ fn slot<C: Change>(fields: &Fields) -> Option<Slot<C>>
     let job = fields.job;
     let link = fields.link;
     match fields.kind {
-        1 => Some(Slot::Job {
+        SlotKind::Open => Some(Slot::Job {
             event: JobEvent::Open,
             job,
         }),
-        2 => record(Action::Put, fields),
-        3 => record(Action::TakeBack, fields),
-        4 => Some(Slot::Job {
+        SlotKind::Change => record(Action::Put, fields),
+        SlotKind::Compensation => record(Action::TakeBack, fields),
+        SlotKind::Commit => Some(Slot::Job {
             event: JobEvent::Commit,
             job,
         }),
-        5 => Some(Slot::Job {
+        SlotKind::End => Some(Slot::Job {
             event: JobEvent::End,
             job,
         }),
-        6 => Some(Slot::Checkpoint(CheckpointPart::Begin)),
-        7 => Some(Slot::Checkpoint(CheckpointPart::DirtyPage {
+        SlotKind::CheckpointBegin => Some(Slot::Checkpoint(CheckpointPart::Begin)),
+        SlotKind::CheckpointPage => Some(Slot::Checkpoint(CheckpointPart::DirtyPage {
             page: fields.page,
             start: link,
         })),
-        8 => Some(Slot::Checkpoint(CheckpointPart::OpenJob { job, next: link })),
-        9 => Some(Slot::Checkpoint(CheckpointPart::Complete { begin: link })),
-        _ => None,
+        SlotKind::CheckpointJob => {
+            Some(Slot::Checkpoint(CheckpointPart::OpenJob { job, next: link }))
+        }
+        SlotKind::CheckpointEnd => Some(Slot::Checkpoint(CheckpointPart::Complete { begin: link })),
     }
 }
 

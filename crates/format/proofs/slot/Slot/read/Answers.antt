@@ -9,5 +9,5 @@ returns g c =
     record {
       value = c.decode.ensures;
       fits = ap is_ok c.decode.ensures ∙ reads_fit m c.args.pages c.args.number b;
-      bytes = answer_written m g.met.C.Change.lawful c.args.pages c.args.number b (record { size = c.told-bytes; small = c.fits-bytes }) c.decode.result c.decode.ensures;
+      bytes = answer_written m c.args.pages c.args.number b g.met.C.Change.lawful (record { size = c.told-bytes; small = c.fits-bytes }) c.decode.result c.decode.ensures;
     }
