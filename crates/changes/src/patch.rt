@@ -5,6 +5,7 @@ ghost use Rattle.changes.specs.PatchForm.{patch_ok};
 mod change;
 mod parts;
 
+// An array with its length beside: a patch is copied and lies in no heap, and a Vec is neither.
 #[derive(Clone, Copy)]
 pub struct Patch {
     offset: u8,

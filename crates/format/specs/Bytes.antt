@@ -1,5 +1,6 @@
 -- Bytes in a row, the number that four of them spell, and a part of a row rewritten in place. Assumes nothing.
-use Rattle.std.specs.Prelude.{◌≡◌, ℕ, ◌+◌, ◌*◌, ◌/◌, ◌%◌, ◌<◌, Bool, true, ◌&&◌, List, [], ◌∷◌, ◌++◌, length, take, drop, ◌==◌, nat_lt, slice_index}
+use Rattle.std.specs.Prelude.{◌≡◌, ℕ, ◌+◌, ◌*◌, ◌/◌, ◌%◌, ◌<◌, Bool, List, [], ◌∷◌, ◌++◌, length, take, drop, ◌==◌, nat_lt, slice_index}
+use Rattle.std.specs.List.{list_all}
 
 -- n numbers below 256
 pub record Bytes (n : ℕ) (xs : List ℕ) : Type 0 where
@@ -20,9 +21,7 @@ rewritten at n f xs = take at xs ++ (f (take n (drop at xs)) ++ drop n (drop at 
 
 -- tests of a row
 abbrev pub all_bytes : List ℕ → Bool
-all_bytes [] = true
-all_bytes (x ∷ xs) = nat_lt x 256 && all_bytes xs
+all_bytes xs = list_all (λ x. nat_lt x 256) xs
 
 abbrev pub all_zero : List ℕ → Bool
-all_zero [] = true
-all_zero (x ∷ xs) = x == 0 && all_zero xs
+all_zero xs = list_all (λ x. x == 0) xs

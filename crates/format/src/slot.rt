@@ -53,7 +53,7 @@ pub enum CheckpointPart {
 }
 
 // The first thing by which 60 bytes are no slot at their number, with the value found.
-#[derive(Clone, Copy)]
+#[derive(Clone, Copy, Debug, PartialEq, Eq)]
 pub enum Misfit {
     UnknownKind(u8),
     UnusedNotZero,

@@ -1,5 +1,6 @@
 // Slots and misfits in words, for people.
 use crate::slot::{Action, CheckpointPart, JobEvent, Misfit, PageRecord, Slot, SlotKind};
+use std::error::Error;
 use std::fmt;
 
 impl<C: fmt::Display> fmt::Display for Slot<C> {
@@ -84,3 +85,5 @@ impl fmt::Display for Misfit {
         }
     }
 }
+
+impl Error for Misfit {}

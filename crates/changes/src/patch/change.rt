@@ -51,6 +51,7 @@ fn xor_into(part: &mut [u8], mask: &[u8])
     requires { length part.old ≡ length mask.now }
     ensures { part.new ≡ xored mask.now part.old }
 {
+    // By index: after `part.iter_mut().zip(mask)` no proof knows what was written.
     for (i, other) in mask.iter().enumerate() {
         part[i] ^= *other;
     }

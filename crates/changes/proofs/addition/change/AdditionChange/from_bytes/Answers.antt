@@ -9,19 +9,19 @@ use Rattle.changes.proofs.addition.change.AdditionChange.from_bytes.Goals as goa
 pub returns-then-not-all_zero : goal.returns-then-not-all_zero
 returns-then-not-all_zero c =
     let b = c.args.bytes.now in
-    let used = all_zero_part b 8 _ _ c.all_zero.ensures (omega arith) ∙ c.if-not-all_zero.true in
+    let used = all_zero_part b 8 32 c.all_zero.result c.all_zero.ensures (omega arith) ∙ c.if-not-all_zero.true in
     let never : is_addition b ≡ true → ⊥ = λ e. both_ways _ used (unused_stand b e) in
     record { reads = not_addition b never; forms = not_is_addition b never }
 
 pub returns : goal.returns
 returns c =
     let b = c.args.bytes.now in
-    let rest = all_zero_part b 8 _ _ c.all_zero.ensures (omega arith) ∙ c.if-not-all_zero.false in
+    let rest = all_zero_part b 8 32 c.all_zero.result c.all_zero.ensures (omega arith) ∙ c.if-not-all_zero.false in
     let fit : Bytes 40 b = record { size = c.told-bytes; small = c.fits-bytes } in
     let first : get_or b 0 0 ≡ 2 = omega arith in
     let third : get_or b 2 0 ≡ 0 = omega arith in
     let fourth : get_or b 3 0 ≡ 0 = omega arith in
     record {
-      reads = c.new.ensures.made ∙ ap (addition_of (get_or b 1 0)) c.from_le_bytes.ensures ∙ sym (addition_reads b fit first third fourth rest);
+      reads = c.new.ensures.made ∙ ap (addition_of (get_or b 1 0)) c.number_at.ensures ∙ sym (addition_reads b fit first third fourth rest);
       forms = c.new.ensures.range ∙ sym (addition_stands b fit first third fourth rest);
     }
