@@ -75,10 +75,6 @@ number_part xs at =
 pub number_drop : (b : List ℕ) (i at : ℕ) → number_at (drop i b) at ≡ number_at b (i + at)
 number_drop b i at = simp (get_or-drop, add_assoc)
 
--- the same of `&b[i..]` as a slice pattern leaves it
-pub number_rest : (b : List ℕ) (i at : ℕ) → number_at (take (length b - i) (drop i b)) at ≡ number_at b (i + at)
-number_rest b i at = rw (take_rest b i) (number_drop b i at)
-
 -- the number at a place, spelled again, stands there
 pub spelled_at : (b : List ℕ) (i : ℕ) → Small b → i + 4 ≤ length b → spelled (number_at b i) ++ drop (i + 4) b ≡ drop i b
 spelled_at b i small h =

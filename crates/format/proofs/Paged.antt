@@ -14,6 +14,3 @@ page_written b h = spelled_at b 0 h.small (omega arith)
 
 pub content_part : (b : List ℕ) → length b ≡ 256 → take 252 (drop 4 b) ≡ drop 4 b
 content_part b h = take_all 252 (drop 4 b) (rw (length-drop 4 b) (omega arith))
-
-pub page_pair : {r : List ℕ} (p : Page) → p.lrc < 2 ^ 32 → r ≡ page_bytes p → record { value : r ≡ page_bytes p; reads : page_of r ≡ p }
-page_pair p h e = record { value = e; reads = ap page_of e ∙ page_reads p h }

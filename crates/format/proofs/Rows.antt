@@ -29,12 +29,6 @@ small_take (suc n) (x ∷ xs) p (suc k) = small_take n xs (λ j. p (suc j)) k
 pub small_drop : (n : ℕ) (xs : List ℕ) → Small xs → Small (drop n xs)
 small_drop n xs p k = rw get_or-drop (p (n + k))
 
-pub bytes_append : (m n : ℕ) (xs ys : List ℕ) → Bytes m xs → Bytes n ys → Bytes (m + n) (xs ++ ys)
-bytes_append m n xs ys p q = record {
-  size = simp length-append (omega (arith, p.size, q.size));
-  small = small_append xs ys p.small q.small;
-}
-
 -- what lies from a place on in a longer row
 pub bytes_part : (at n m : ℕ) (xs : List ℕ) → at + n ≤ m → Bytes m xs → Bytes n (take n (drop at xs))
 bytes_part at n m xs h p = record {
@@ -58,13 +52,6 @@ all_zero_is (x ∷ xs) e = let p = and_parts (eqb x 0) (all_zero xs) e in let h 
 pub zeros_all_zero : (n : ℕ) → all_zero (replicate n 0) ≡ true
 zeros_all_zero zero = refl
 zeros_all_zero (suc n) = zeros_all_zero n
-
--- the test goes on past a zero, and stops at any other number
-pub zero_on : (xs : List ℕ) (i : ℕ) → i < length xs → get_or xs i 0 ≡ 0 → all_zero (drop i xs) ≡ all_zero (drop (i + 1) xs)
-zero_on xs i h e = rw (drop_more xs i 0 h, e)
-
-pub zero_off : (xs : List ℕ) (i : ℕ) → i < length xs → (get_or xs i 0 ≡ 0 → ⊥) → all_zero (drop i xs) ≡ false
-zero_off xs i h n = rw (drop_more xs i 0 h, ne_eqb (get_or xs i 0) 0 n)
 
 pub small_zeros : (n : ℕ) → Small (replicate n 0)
 small_zeros zero k = lit< tt
