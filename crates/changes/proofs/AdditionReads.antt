@@ -1,8 +1,8 @@
 -- Which 40 bytes form an addition: the description by places agrees with the addition's own bytes.
-use Rattle.std.proofs.Common.{◌≡◌, ℕ, ◌-◌, true, false, ◌&&◌, eqb, leb, List, ◌∷◌, ◌++◌, get_or, take, drop, replicate, None, sym, refl, ap, ◌∙◌, inl, inr, arith, lit≤, length-drop}
+use Rattle.std.proofs.Common.{◌≡◌, ℕ, ◌-◌, true, false, ◌&&◌, eqb, leb, List, ◌∷◌, ◌++◌, get_or, take, drop, replicate, None, sym, refl, ap, ◌∙◌, arith, lit≤, length-drop}
 use mathlib.Core.Bool.{and-true}
 use Rattle.std.proofs.lemmas.List.{take-append-drop, drop-drop}
-use Rattle.std.proofs.lemmas.Bool.{and_parts, and_from, le-leb, cases_Bool}
+use Rattle.std.proofs.lemmas.Bool.{and_parts, and_from, le-leb, false_from_ne_true}
 use Rattle.changes.specs.declared.addition.Addition.{Addition}
 use Rattle.changes.specs.AdditionForm.{addition_ok}
 use Rattle.changes.specs.Additions.{addition_bytes, addition_of, addition_meaning, is_addition}
@@ -16,11 +16,11 @@ use Rattle.format.proofs.Rows.{all_zero_is, bytes_part, four_and_rest}
 own_stands : (a : Addition) → is_addition (addition_bytes a) ≡ true
 own_stands a = and_from (leb a.offset 248) true (le-leb a.offset 248 (addition_low a)) refl
 
-pub not_addition : (b : List ℕ) → (is_addition b ≡ true → ⊥) → None ≡ addition_meaning.reads b
-not_addition b h = sym (form_none addition_bytes b (addition_of (get_or b 1 0) (number_at b 4)) (λ a e. h (ap is_addition (sym e) ∙ own_stands a)))
-
-pub not_is_addition : (b : List ℕ) → (is_addition b ≡ true → ⊥) → false ≡ is_addition b
-not_is_addition b h = elim (cases_Bool (is_addition b)) [ inl e ↦ absurd (h e) | inr e ↦ sym e ]
+pub no_addition : (b : List ℕ) → (is_addition b ≡ true → ⊥) → record { reads : None ≡ addition_meaning.reads b; forms : false ≡ is_addition b }
+no_addition b h = record {
+  reads = sym (form_none addition_bytes b (addition_of (get_or b 1 0) (number_at b 4)) (λ a e. h (ap is_addition (sym e) ∙ own_stands a)));
+  forms = sym (false_from_ne_true (is_addition b) h);
+}
 
 pub unused_stand : (b : List ℕ) → is_addition b ≡ true → all_zero (drop 8 b) ≡ true
 unused_stand b e =

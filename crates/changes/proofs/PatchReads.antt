@@ -1,8 +1,8 @@
 -- Which 40 bytes form a patch: the description by places agrees with the patch's own bytes.
-use Rattle.std.proofs.Common.{◌≡◌, ℕ, ◌+◌, ◌-◌, ◌≤◌, true, false, ◌&&◌, eqb, leb, List, ◌∷◌, ◌++◌, length, get_or, take, drop, replicate, None, sym, refl, ap, ◌∙◌, inl, inr, arith, length-drop, length-take}
+use Rattle.std.proofs.Common.{◌≡◌, ℕ, ◌+◌, ◌-◌, ◌≤◌, true, false, ◌&&◌, eqb, leb, List, ◌∷◌, ◌++◌, length, get_or, take, drop, replicate, None, sym, refl, ap, ◌∙◌, arith, length-drop, length-take}
 use mathlib.Core.Bool.{and-true}
 use Rattle.std.proofs.lemmas.List.{append_assoc, take-append-drop, drop-drop, drop-append-le, take_at, replicate-append-replicate}
-use Rattle.std.proofs.lemmas.Bool.{and_parts, and_from, eqb-true, leb-true, cases_Bool}
+use Rattle.std.proofs.lemmas.Bool.{and_parts, and_from, eqb-true, leb-true, false_from_ne_true}
 use Rattle.changes.specs.declared.patch.Patch.{Patch}
 use Rattle.changes.specs.PatchForm.{patch_range, patch_ok}
 use Rattle.changes.specs.Patches.{patch_bytes, patch_of, patch_meaning, padded, is_patch}
@@ -47,11 +47,11 @@ own_stands p =
     and_from (patch_range p.offset p.length) (all_zero (drop (4 + p.length) (patch_bytes p))) (patch_range_from p.offset p.length f.some f.few f.inside)
     (rw behind (all_zero_append (drop p.length p.mask) (replicate 4 0) f.rest refl))
 
-pub not_patch : (b : List ℕ) → (is_patch b ≡ true → ⊥) → None ≡ patch_meaning.reads b
-not_patch b h = sym (form_none patch_bytes b (patch_of (get_or b 1 0) (get_or b 2 0) (take 32 (drop 4 b))) (λ p e. h (ap is_patch (sym e) ∙ own_stands p)))
-
-pub not_is_patch : (b : List ℕ) → (is_patch b ≡ true → ⊥) → false ≡ is_patch b
-not_is_patch b h = elim (cases_Bool (is_patch b)) [ inl e ↦ absurd (h e) | inr e ↦ sym e ]
+pub no_patch : (b : List ℕ) → (is_patch b ≡ true → ⊥) → record { reads : None ≡ patch_meaning.reads b; forms : false ≡ is_patch b }
+no_patch b h = record {
+  reads = sym (form_none patch_bytes b (patch_of (get_or b 1 0) (get_or b 2 0) (take 32 (drop 4 b))) (λ p e. h (ap is_patch (sym e) ∙ own_stands p)));
+  forms = sym (false_from_ne_true (is_patch b) h);
+}
 
 -- bytes that stand so, whether or not offset and length are in range
 module _ (b : List ℕ) (size : length b ≡ 40) (first : get_or b 0 0 ≡ 1) (fourth : get_or b 3 0 ≡ 0) (few : get_or b 2 0 ≤ 32) (rest : all_zero (drop (4 + get_or b 2 0) b) ≡ true) where

@@ -1,6 +1,6 @@
 -- Four bytes and the number that they spell: at a place, behind a front that was taken off, spelled again; sums modulo 2^32.
 use Rattle.std.proofs.Common.{◌≡◌, ℕ, ◌+◌, ◌-◌, ◌*◌, ◌/◌, ◌%◌, ◌^◌, ◌<◌, ◌≤◌, List, [], ◌∷◌, ◌++◌, length, get_or, take, drop, sym, refl, ap, ◌∙◌, add-zero, add_assoc, arith, lit<}
-use Rattle.std.proofs.lemmas.List.{get_or-take, get_or-drop, take_rest, drop-drop, take-append-drop}
+use Rattle.std.proofs.lemmas.List.{get_or-take, get_or-drop, drop-drop, take-append-drop}
 use Rattle.std.proofs.lemmas.Nat.{mod_below, div_below, shr-shr}
 use Rattle.format.specs.Bytes.{Bytes, number_at, spelled}
 use Rattle.format.proofs.Rows.{Small, small_four, bytes_part}

@@ -1,4 +1,4 @@
-use Rattle.std.proofs.Common.{ap, ◌∙◌}
+use Rattle.std.proofs.Common.{◌∙◌}
 use Rattle.format.proofs.Paged.{page_written, content_part}
 use Rattle.format.proofs.page.Page.from_bytes.Goals as goal
 

@@ -1,8 +1,8 @@
-use Rattle.std.proofs.Common.{◌≡◌, true, get_or, sym, ap, ◌∙◌, arith}
+use Rattle.std.proofs.Common.{◌≡◌, get_or, sym, ap, ◌∙◌, arith}
 use Rattle.std.proofs.lemmas.Bool.{both_ways}
-use Rattle.changes.specs.Additions.{addition_of, is_addition}
+use Rattle.changes.specs.Additions.{addition_of}
 use Rattle.format.specs.Bytes.{Bytes}
-use Rattle.changes.proofs.AdditionReads.{not_addition, not_is_addition, unused_stand, addition_reads, addition_stands}
+use Rattle.changes.proofs.AdditionReads.{no_addition, unused_stand, addition_reads, addition_stands}
 use Rattle.format.proofs.Rows.{all_zero_part}
 use Rattle.changes.proofs.addition.change.AdditionChange.from_bytes.Goals as goal
 
@@ -10,8 +10,7 @@ pub returns-then-not-all_zero : goal.returns-then-not-all_zero
 returns-then-not-all_zero c =
     let b = c.args.bytes.now in
     let used = all_zero_part b 8 32 c.all_zero.result c.all_zero.ensures (omega arith) ∙ c.if-not-all_zero.true in
-    let never : is_addition b ≡ true → ⊥ = λ e. both_ways _ used (unused_stand b e) in
-    record { reads = not_addition b never; forms = not_is_addition b never }
+    no_addition b (λ e. both_ways _ used (unused_stand b e))
 
 pub returns : goal.returns
 returns c =
