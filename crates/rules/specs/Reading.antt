@@ -3,7 +3,8 @@ use Rattle.std.specs.Prelude.{ℕ, suc, cond, List, [], ◌∷◌, None, Ok, Err
 use Rattle.std.specs.Result.{result_ok}
 use Rattle.format.specs.declared.slot.Slot.{Slot}
 use Rattle.format.specs.Changes.{Meaning}
-use Rattle.format.specs.Slots.{read_slot}
+use Rattle.format.specs.declared.slot.kind.SlotKind.TheVariants.{CheckpointEnd}
+use Rattle.format.specs.Slots.{kind_number, read_slot}
 use Rattle.recovery_log.specs.Log.{Log, new_number}
 use Rattle.rules.specs.declared.refusal.Refusal.{Refusal}
 
@@ -43,7 +44,7 @@ scan from f s (x ∷ L) = cond (nat_lt (new_number L) from) (Ok s) (then (scan f
 -- the number of the last slot whose first byte says checkpoint end, or 0
 abbrev pub last_end_from : ℕ → ℕ → List (List ℕ) → ℕ
 last_end_from n found [] = found
-last_end_from n found (b ∷ bs) = last_end_from (suc n) (cond (slice_index b 0 == 9) n found) bs
+last_end_from n found (b ∷ bs) = last_end_from (suc n) (cond (slice_index b 0 == kind_number CheckpointEnd) n found) bs
 
 abbrev pub last_end : List (List ℕ) → ℕ
 last_end slots = last_end_from 1 0 slots
