@@ -41,7 +41,8 @@ module _ {C : Type 0} where
   pending_most (Some (Job e k) ∷ L) j = omega (arith, pending_most L j)
   pending_most (Some (Checkpoint p) ∷ L) j = omega (arith, pending_most L j)
 
-  by_record : (L : Log C) (r : PageRecord C) → length L < 4294967295 → with_action r.action (job_in L r.job) ≡ job_in (Some (Record r) ∷ L) r.job
+  -- of what is pending four bytes hold the count, one record later
+  pub by_record : (L : Log C) (r : PageRecord C) → length L < 4294967295 → with_action r.action (job_in L r.job) ≡ job_in (Some (Record r) ∷ L) r.job
   by_record L r few =
       let x : Numbered C = record { number = new_number L; record' = r } in
       let count : length (pending L r.job) < 4294967295 = omega (arith, pending_most L r.job) in

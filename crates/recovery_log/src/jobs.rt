@@ -2,13 +2,14 @@
 ghost use Rattle.std.specs.Prelude.{◌≡◌, ◌-◌, ◌^◌, ◌<◌, ◌∷◌, length, OnOk};
 ghost use Rattle.std.specs.Option.{option_map};
 ghost use Rattle.recovery_log.specs.Log.{Log};
-ghost use Rattle.recovery_log.specs.Summary.{TellsJobs, job_at, with_action, with_event};
+ghost use Rattle.recovery_log.specs.Summary.{TellsJobs, with_action, with_event};
 
 use format::{Action, JobEvent, Slot};
 use std::alloc::AllocError;
 use std::collections::BTreeMap;
 
-#[derive(Clone, Copy)]
+// The three facts are independent of each other in a log of any bytes: a job can be committed, ended and open again.
+#[derive(Clone, Copy, Default)]
 pub struct JobSummary {
     // Its newest event is its open.
     pub open: bool,
@@ -26,60 +27,34 @@ pub(crate) fn note_job<C>(
 {
     match slot {
         Some(Slot::Record(record)) => {
-            let was = look_up(jobs, record.job);
-            jobs.insert(record.job, was.with_action(record.action))?;
-            Ok(())
+            jobs.entry(record.job)?
+                .or_default()
+                .note_action(record.action)
         }
-        Some(Slot::Job { event, job }) => {
-            let was = look_up(jobs, *job);
-            jobs.insert(*job, was.with_event(*event))?;
-            Ok(())
-        }
-        Some(Slot::Checkpoint(_)) | None => Ok(()),
+        Some(Slot::Job { event, job }) => jobs.entry(*job)?.or_default().note_event(*event),
+        Some(Slot::Checkpoint(_)) | None => {}
     }
-}
-
-fn look_up(jobs: &BTreeMap<u32, JobSummary>, job: u32) -> JobSummary
-    ensures { result ≡ job_at jobs.now job }
-{
-    let nothing = JobSummary {
-        open: false,
-        committed: false,
-        ended: false,
-        not_taken_back: 0,
-    };
-    jobs.get(&job).copied().unwrap_or(nothing)
+    Ok(())
 }
 
 impl JobSummary {
-    fn with_event(self, event: JobEvent) -> JobSummary
-        ensures { result ≡ with_event event self }
+    fn note_event(&mut self, event: JobEvent)
+        ensures { self.new ≡ with_event event self.old }
     {
+        self.open = matches!(event, JobEvent::Open);
         match event {
-            JobEvent::Open => JobSummary { open: true, ..self },
-            JobEvent::Commit => JobSummary {
-                open: false,
-                committed: true,
-                ..self
-            },
-            JobEvent::End => JobSummary {
-                open: false,
-                ended: true,
-                ..self
-            },
+            JobEvent::Open => {}
+            JobEvent::Commit => self.committed = true,
+            JobEvent::End => self.ended = true,
         }
     }
 
-    fn with_action(self, action: Action) -> JobSummary
-        ensures { result ≡ with_action action self }
+    fn note_action(&mut self, action: Action)
+        ensures { self.new ≡ with_action action self.old }
     {
-        let not_taken_back = match action {
+        self.not_taken_back = match action {
             Action::Put => self.not_taken_back.saturating_add(1),
             Action::TakeBack => self.not_taken_back.saturating_sub(1),
         };
-        JobSummary {
-            not_taken_back,
-            ..self
-        }
     }
 }
