@@ -1,5 +1,5 @@
 -- What a summary tells of a log. Assumes nothing.
-use Rattle.std.specs.Prelude.{◌≡◌, ℕ, ◌+◌, ◌-◌, ◌^◌, ◌<◌, min, Bool, false, ◌||◌, List, [], ◌∷◌, length, is_some, IfSome, Some, None, Ok, Err, Option, Result, ◌==◌, slice_index}
+use Rattle.std.specs.Prelude.{◌≡◌, ℕ, ◌+◌, ◌-◌, ◌^◌, ◌<◌, min, Bool, false, ◌||◌, List, [], ◌∷◌, length, is_some, Some, None, Ok, Err, Option, Result, ◌==◌, slice_index, ⊤}
 use Rattle.std.specs.BTreeMap.{BTreeMap}
 use Rattle.std.specs.BTreeMap.{IsOrdered, get}
 use Rattle.std.specs.BTreeSet as sets
@@ -71,12 +71,19 @@ module _ {C : Type 0} where
 -- Checkpoints
 
 -- the draft has the begin, and names the pages and the jobs, of what is in the making
-pub record TellsMaking (d : Draft) (m : Option Making) : Type 0 where
-  pub begin : d.begin ≡ option_map (λ x. x.begin) m
+pub record TellsDraft (d : Draft) (m : Making) : Type 0 where
+  pub begin : d.begin ≡ m.begin
   pub pages_ordered : sets.IsOrdered nat_cmp d.pages
   pub jobs_ordered : sets.IsOrdered nat_cmp d.jobs
-  pub pages : IfSome m (λ x. (p : ℕ) → sets.contains nat_cmp d.pages p ≡ has_page p x.pages)
-  pub jobs : IfSome m (λ x. (j : ℕ) → sets.contains nat_cmp d.jobs j ≡ has_job j x.jobs)
+  pub pages : (p : ℕ) → sets.contains nat_cmp d.pages p ≡ has_page p m.pages
+  pub jobs : (j : ℕ) → sets.contains nat_cmp d.jobs j ≡ has_job j m.jobs
+
+-- there is a draft exactly where something is in the making
+abbrev pub TellsMaking : Option Draft → Option Making → Type 0
+TellsMaking None None = ⊤
+TellsMaking None (Some m) = ⊥
+TellsMaking (Some d) None = ⊥
+TellsMaking (Some d) (Some m) = TellsDraft d m
 
 -- the newest complete one
 abbrev pub complete : {C : Type 0} → Log C → Option checkpoint.Checkpoint

@@ -6,7 +6,7 @@ ghost use Rattle.recovery_log.specs.Summary.{Tells, Noted, TellsPages, TellsCoun
 
 use crate::error::NoteError;
 use crate::jobs::{JobSummary, note_job};
-use crate::making::Draft;
+use crate::making::{Draft, next_draft};
 use format::{CheckpointPart, Slot};
 use std::alloc::{AllocError, Global};
 use std::collections::BTreeMap;
@@ -23,7 +23,9 @@ pub struct Summary {
     pub counts: [u32; 10],
     // The newest that is complete.
     pub checkpoint: Option<Checkpoint>,
-    making: Draft,
+    making: Option<Draft>,
+    // For the names of the next checkpoint.
+    heap: Global,
 }
 
 // By the numbers of its begin and of its end.
@@ -44,7 +46,8 @@ impl Summary {
             pages: BTreeMap::new(heap),
             counts: [0; 10],
             checkpoint: None,
-            making: Draft::new(heap),
+            making: None,
+            heap,
         }
     }
 
@@ -52,14 +55,12 @@ impl Summary {
     pub fn note<C>(&mut self, slot: Option<&Slot<C>>) -> Result<(), NoteError>
         ensures { Noted (option_map (λ x. x.now) slot.entry) self.old self.new result }
     {
-        let Some(number) = self.slots.checked_add(1) else {
-            return Err(NoteError::TooManySlots);
-        };
+        let number = self.slots.checked_add(1).ok_or(NoteError::TooManySlots)?;
         note_job(&mut self.jobs, slot)?;
         note_page(&mut self.pages, slot)?;
         count(&mut self.counts, slot);
-        self.checkpoint = newest(self.checkpoint, &self.making, slot, number);
-        self.making.note(slot, number)?;
+        self.checkpoint = newest(self.checkpoint, self.making.as_ref(), slot, number);
+        self.making = next_draft(self.making.take(), slot, number, self.heap)?;
         self.slots = number;
         Ok(())
     }
@@ -80,22 +81,19 @@ fn note_page<C>(pages: &mut BTreeMap<u8, u32>, slot: Option<&Slot<C>>) -> Result
 // The newest complete checkpoint once the slot of that number is noted: an end completes what its begin names.
 fn newest<C>(
     was: Option<Checkpoint>,
-    draft: &Draft,
+    draft: Option<&Draft>,
     slot: Option<&Slot<C>>,
     number: u32,
 ) -> Option<Checkpoint>
-    ensures { (L : Log C) → number ≡ new_number L → TellsMaking draft.now (making L) → was ≡ complete L → result ≡ complete (option_map (λ x. x.now) slot.entry ∷ L) }
+    ensures { (L : Log C) → number ≡ new_number L → TellsMaking (option_map (λ x. x.now) draft.entry) (making L) → was ≡ complete L → result ≡ complete (option_map (λ x. x.now) slot.entry ∷ L) }
 {
-    match slot {
-        Some(Slot::Checkpoint(CheckpointPart::Complete { begin })) => {
-            if draft.begin == Some(*begin) {
-                Some(Checkpoint {
-                    begin: *begin,
-                    end: number,
-                })
-            } else {
-                was
-            }
+    match (slot, draft) {
+        (Some(Slot::Checkpoint(CheckpointPart::Complete { begin })), Some(draft))
+            if draft.begin == *begin => {
+            Some(Checkpoint {
+                begin: *begin,
+                end: number,
+            })
         }
         _ => was,
     }
