@@ -10,6 +10,7 @@ use Rattle.format.specs.declared.slot.JobEvent.{JobEvent}
 use Rattle.format.specs.declared.slot.JobEvent.TheVariants.{Open, Commit, End}
 use Rattle.format.specs.declared.slot.CheckpointPart.{CheckpointPart}
 use Rattle.format.specs.declared.slot.CheckpointPart.TheVariants.{Begin, DirtyPage, OpenJob, Complete}
+use Rattle.format.specs.declared.slot.kind.SlotKind.{SlotKind}
 use Rattle.format.specs.Slots.{kind_number, kind_of}
 
 abbrev pub Log : Type 0 → Type 0
@@ -180,11 +181,17 @@ last_checkpoint (Some (Checkpoint p) ∷ L) = checkpoint_by p (new_number L) (ma
 
 -- Counts
 
--- how many slots are of the kind; kind 0 stands for those that do not fit
-abbrev pub kind_or_0 : {C : Type 0} → Option (Slot C) → ℕ
-kind_or_0 None = 0
-kind_or_0 (Some s) = kind_number (kind_of s)
+-- how many slots do not fit
+abbrev pub how_many_misfits : {C : Type 0} → Log C → ℕ
+how_many_misfits [] = 0
+how_many_misfits (None ∷ L) = suc (how_many_misfits L)
+how_many_misfits (Some s ∷ L) = how_many_misfits L
 
-abbrev pub how_many : {C : Type 0} → ℕ → Log C → ℕ
+abbrev pub is_of_kind : {C : Type 0} → SlotKind → Slot C → Bool
+is_of_kind k s = kind_number (kind_of s) == kind_number k
+
+-- how many slots are of the kind
+abbrev pub how_many : {C : Type 0} → SlotKind → Log C → ℕ
 how_many k [] = 0
-how_many k (s ∷ L) = cond (kind_or_0 s == k) (suc (how_many k L)) (how_many k L)
+how_many k (None ∷ L) = how_many k L
+how_many k (Some s ∷ L) = cond (is_of_kind k s) (suc (how_many k L)) (how_many k L)

@@ -1,5 +1,5 @@
 -- What a summary tells of a log. Assumes nothing.
-use Rattle.std.specs.Prelude.{◌≡◌, ℕ, ◌+◌, ◌-◌, ◌^◌, ◌<◌, min, Bool, false, ◌||◌, List, [], ◌∷◌, length, is_some, Some, None, Ok, Err, Option, Result, ◌==◌, slice_index, ⊤}
+use Rattle.std.specs.Prelude.{◌≡◌, ℕ, ◌+◌, ◌-◌, ◌^◌, ◌<◌, min, Bool, false, ◌||◌, [], ◌∷◌, length, is_some, Some, None, Ok, Err, Option, Result, ◌==◌, ⊤}
 use Rattle.std.specs.BTreeMap.{BTreeMap}
 use Rattle.std.specs.BTreeMap.{IsOrdered, get}
 use Rattle.std.specs.BTreeSet as sets
@@ -9,14 +9,17 @@ use Rattle.format.specs.declared.slot.Slot.TheVariants.{Record, Job, Checkpoint}
 use Rattle.format.specs.declared.slot.Action.{Action}
 use Rattle.format.specs.declared.slot.Action.TheVariants.{Put, TakeBack}
 use Rattle.format.specs.declared.slot.JobEvent.{JobEvent}
+use Rattle.format.specs.declared.slot.kind.SlotKind.{SlotKind}
+use Rattle.format.specs.contracts.slot.kind.SlotKindOrd.TheImpl as by_order
 use Rattle.recovery_log.specs.declared.error.NoteError.{NoteError}
 use Rattle.recovery_log.specs.declared.error.NoteError.TheVariants.{OutOfMemory, TooManySlots}
 use Rattle.recovery_log.specs.declared.jobs.JobSummary.{JobSummary}
 use Rattle.recovery_log.specs.declared.making.Draft.{Draft}
 use Rattle.recovery_log.specs.declared.summary.Checkpoint as checkpoint
 use Rattle.recovery_log.specs.declared.summary.Summary.{Summary}
-use Rattle.recovery_log.specs.Log.{Log, opens, commits, ends, is_open, is_committed, is_ended, pending, newest_lrc, how_many, Making, making, has_page, has_job, last_checkpoint}
+use Rattle.recovery_log.specs.Log.{Log, opens, commits, ends, is_open, is_committed, is_ended, pending, newest_lrc, how_many_misfits, how_many, Making, making, has_page, has_job, last_checkpoint}
 use Rattle.std.specs.Ordering.{nat_cmp}
+use Rattle.std.specs.declared.cmp.Ordering.{Ordering}
 
 -- Jobs
 
@@ -60,13 +63,19 @@ module _ where
 
 -- Pages and counts
 
+-- the order of the kinds, by their numbers
+abbrev pub kind_cmp : SlotKind → SlotKind → Ordering
+kind_cmp = by_order.ghosts.cmp
+
 module _ {C : Type 0} where
   pub record TellsPages (m : BTreeMap ℕ ℕ) (L : Log C) : Type 0 where
     pub ordered : IsOrdered nat_cmp m
     pub each : (p : ℕ) → get nat_cmp m p ≡ newest_lrc L p
 
-  abbrev pub TellsCounts : List ℕ → Log C → Type 0
-  TellsCounts counts L = (k : ℕ) → k < 10 → slice_index counts k ≡ how_many k L
+  -- a kind without an entry has no slot
+  pub record TellsKinds (kinds : BTreeMap SlotKind ℕ) (L : Log C) : Type 0 where
+    pub ordered : IsOrdered kind_cmp kinds
+    pub each : (k : SlotKind) → unwrap_or (get kind_cmp kinds k) 0 ≡ how_many k L
 
 -- Checkpoints
 
@@ -95,7 +104,8 @@ pub record Tells {C : Type 0} (s : Summary) (L : Log C) : Type 0 where
   pub slots : s.slots ≡ length L
   pub jobs : TellsJobs s.jobs L
   pub pages : TellsPages s.pages L
-  pub counts : TellsCounts s.counts L
+  pub misfits : s.misfits ≡ how_many_misfits L
+  pub kinds : TellsKinds s.kinds L
   pub newest : s.checkpoint ≡ complete L
   pub draft : TellsMaking s.making (making L)
 

@@ -1,13 +1,13 @@
 // A summary of a log, fed one slot after the other from the oldest on.
 ghost use Rattle.std.specs.Prelude.{◌≡◌, ◌-◌, ◌^◌, ◌<◌, [], ◌∷◌, length, OnOk};
 ghost use Rattle.std.specs.Option.{option_map};
-ghost use Rattle.recovery_log.specs.Log.{Log, kind_or_0, making, new_number};
-ghost use Rattle.recovery_log.specs.Summary.{Tells, Noted, TellsPages, TellsCounts, TellsMaking, complete};
+ghost use Rattle.recovery_log.specs.Log.{Log, how_many_misfits, making, new_number};
+ghost use Rattle.recovery_log.specs.Summary.{Tells, Noted, TellsPages, TellsKinds, TellsMaking, complete};
 
 use crate::error::NoteError;
 use crate::jobs::{JobSummary, note_job};
 use crate::making::{Draft, next_draft};
-use format::{CheckpointPart, Slot};
+use format::{CheckpointPart, Slot, SlotKind};
 use std::alloc::{AllocError, Global};
 use std::collections::BTreeMap;
 
@@ -19,8 +19,10 @@ pub struct Summary {
     pub jobs: BTreeMap<u32, JobSummary>,
     // The LRC of each page's newest record.
     pub pages: BTreeMap<u8, u32>,
-    // How many slots there are of each kind; of kind 0 are those that do not fit.
-    pub counts: [u32; 10],
+    // How many slots do not fit.
+    pub misfits: u32,
+    // How many slots there are of each kind; a kind without an entry has none.
+    pub kinds: BTreeMap<SlotKind, u32>,
     // The newest that is complete.
     pub checkpoint: Option<Checkpoint>,
     making: Option<Draft>,
@@ -44,7 +46,8 @@ impl Summary {
             slots: 0,
             jobs: BTreeMap::new(heap),
             pages: BTreeMap::new(heap),
-            counts: [0; 10],
+            misfits: 0,
+            kinds: BTreeMap::new(heap),
             checkpoint: None,
             making: None,
             heap,
@@ -58,7 +61,8 @@ impl Summary {
         let number = self.slots.checked_add(1).ok_or(NoteError::TooManySlots)?;
         note_job(&mut self.jobs, slot)?;
         note_page(&mut self.pages, slot)?;
-        count(&mut self.counts, slot);
+        note_misfit(&mut self.misfits, slot);
+        note_kind(&mut self.kinds, slot)?;
         self.checkpoint = newest(self.checkpoint, self.making.as_ref(), slot, number);
         self.making = next_draft(self.making.take(), slot, number, self.heap)?;
         self.slots = number;
@@ -69,13 +73,10 @@ impl Summary {
 fn note_page<C>(pages: &mut BTreeMap<u8, u32>, slot: Option<&Slot<C>>) -> Result<(), AllocError>
     ensures { OnOk result ((L : Log C) → TellsPages pages.old L → TellsPages pages.new (option_map (λ x. x.now) slot.entry ∷ L)) }
 {
-    match slot {
-        Some(Slot::Record(record)) => {
-            pages.insert(record.page, record.lrc)?;
-            Ok(())
-        }
-        Some(Slot::Job { .. } | Slot::Checkpoint(_)) | None => Ok(()),
+    if let Some(Slot::Record(record)) = slot {
+        pages.insert(record.page, record.lrc)?;
     }
+    Ok(())
 }
 
 // The newest complete checkpoint once the slot of that number is noted: an end completes what its begin names.
@@ -99,21 +100,26 @@ fn newest<C>(
     }
 }
 
-fn count<C>(counts: &mut [u32; 10], slot: Option<&Slot<C>>)
-    ensures { (L : Log C) → length L < 2 ^ 32 - 1 → TellsCounts counts.old L → TellsCounts counts.new (option_map (λ x. x.now) slot.entry ∷ L) }
+#[tactic(auto, using(crate::proofs::Counting::how_many_misfits_most))]
+fn note_misfit<C>(misfits: &mut u32, slot: Option<&Slot<C>>)
+    ensures { (L : Log C) → length L < 2 ^ 32 - 1 → misfits.old ≡ how_many_misfits L → misfits.new ≡ how_many_misfits (option_map (λ x. x.now) slot.entry ∷ L) }
 {
-    let kind = kind_or_zero(slot) as usize;
-    counts[kind] = counts[kind].saturating_add(1);
+    if slot.is_none() {
+        *misfits = misfits.saturating_add(1);
+    }
 }
 
-fn kind_or_zero<C>(slot: Option<&Slot<C>>) -> u8
-    ensures kind { result ≡ kind_or_0 (option_map (λ x. x.now) slot.entry) }
-    ensures bound { result < 10 }
+fn note_kind<C>(
+    kinds: &mut BTreeMap<SlotKind, u32>,
+    slot: Option<&Slot<C>>,
+) -> Result<(), AllocError>
+    ensures { OnOk result ((L : Log C) → length L < 2 ^ 32 - 1 → TellsKinds kinds.old L → TellsKinds kinds.new (option_map (λ x. x.now) slot.entry ∷ L)) }
 {
-    match slot {
-        Some(slot) => u8::from(slot.kind()),
-        None => 0,
+    if let Some(slot) = slot {
+        let count = kinds.entry(slot.kind())?.or_default();
+        *count = count.saturating_add(1);
     }
+    Ok(())
 }
 
 #[cfg(test)]
@@ -152,7 +158,14 @@ mod tests {
         assert!(rt; job.open && !job.committed && !job.ended);
         assert_eq!(rt; job.not_taken_back, 1);
         assert_eq!(rt; summary.pages.get(&3).copied(), Some(3));
-        assert_eq!(rt; summary.counts, [0, 1, 2, 1, 0, 0, 0, 0, 0, 0]);
+        assert_eq!(rt; summary.misfits, 0);
+        let kinds = summary.kinds.iter().map(|(kind, count)| (*kind, *count));
+        let expected = [
+            (SlotKind::Open, 1),
+            (SlotKind::Change, 2),
+            (SlotKind::Compensation, 1),
+        ];
+        assert!(rt; kinds.eq(expected));
         Ok(())
     }
 

@@ -10,7 +10,8 @@ returns g c = λ L old.
       slots = number;
       jobs = c.in_ok-note_job.ensures L few old.jobs;
       pages = c.in_ok-note_page.ensures L old.pages;
-      counts = c.count.ensures L few old.counts;
+      misfits = c.note_misfit.ensures L few old.misfits;
+      kinds = c.in_ok-note_kind.ensures L few old.kinds;
       newest = c.newest-self.ensures L number (rw c.as_ref.ensures.value old.draft) old.newest;
       draft = c.in_ok-self.ensures L number (rw c.take.ensures.value old.draft);
     }
