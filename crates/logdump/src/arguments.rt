@@ -1,6 +1,7 @@
 // What the program is asked: the number of pages, the kind of change, how the log lies in the image, and where the image is.
 use crate::failure::Failure;
 use std::env;
+use std::str::FromStr;
 
 #[derive(Drop)]
 pub struct Arguments {
@@ -29,57 +30,49 @@ impl Arguments {
     pub(crate) fn parse(rt: &HostRuntime) -> Result<Arguments, Failure> {
         let mut words = env::args(rt)?;
         let _program = words.next();
-        let Some(pages) = words.next() else {
-            return Err(Failure::Usage);
-        };
-        let Some(kind) = words.next() else {
-            return Err(Failure::Usage);
-        };
-        let Some(layout) = words.next() else {
-            return Err(Failure::Usage);
-        };
+        let pages = words.next().ok_or(Failure::Usage)?;
+        let kind = words.next().ok_or(Failure::Usage)?;
+        let layout = words.next().ok_or(Failure::Usage)?;
         let file = words.next();
         if words.next().is_some() {
             return Err(Failure::Usage);
         }
         Ok(Arguments {
             pages: page_count(pages.as_str())?,
-            kind: change_kind(kind.as_str())?,
-            layout: image_layout(layout.as_str())?,
+            kind: kind.parse()?,
+            layout: layout.parse()?,
             file,
         })
     }
 }
 
 fn page_count(text: &str) -> Result<u32, Failure> {
-    match text.parse::<u32>() {
-        Ok(pages) => {
-            if 1 <= pages && pages <= 65536 {
-                Ok(pages)
-            } else {
-                Err(Failure::Pages)
-            }
+    text.parse()
+        .ok()
+        .filter(|pages| (1..=65536).contains(pages))
+        .ok_or(Failure::Pages)
+}
+
+impl FromStr for ChangeKind {
+    type Err = Failure;
+
+    fn from_str(text: &str) -> Result<ChangeKind, Failure> {
+        match text {
+            "patch" => Ok(ChangeKind::Patch),
+            "addition" => Ok(ChangeKind::Addition),
+            _ => Err(Failure::Kind),
         }
-        Err(_) => Err(Failure::Pages),
     }
 }
 
-fn change_kind(text: &str) -> Result<ChangeKind, Failure> {
-    if text == "patch" {
-        Ok(ChangeKind::Patch)
-    } else if text == "addition" {
-        Ok(ChangeKind::Addition)
-    } else {
-        Err(Failure::Kind)
-    }
-}
+impl FromStr for Layout {
+    type Err = Failure;
 
-fn image_layout(text: &str) -> Result<Layout, Failure> {
-    if text == "slots" {
-        Ok(Layout::Slots)
-    } else if text == "pages" {
-        Ok(Layout::Pages)
-    } else {
-        Err(Failure::Layout)
+    fn from_str(text: &str) -> Result<Layout, Failure> {
+        match text {
+            "slots" => Ok(Layout::Slots),
+            "pages" => Ok(Layout::Pages),
+            _ => Err(Failure::Layout),
+        }
     }
 }

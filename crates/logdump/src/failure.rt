@@ -1,6 +1,7 @@
 // Why the program gives up, each in a sentence that says what was expected.
 use recovery_log::NoteError;
-use std::alloc::{AllocError, AllocFailed};
+use std::alloc::AllocError;
+use std::io::ErrorKind;
 use std::{fmt, io};
 
 #[derive(Drop, Debug)]
@@ -34,20 +35,18 @@ impl fmt::Display for Failure {
     }
 }
 
+// Memory that runs out is one failure, also where a buffer of the library wants it.
 impl From<io::Error> for Failure {
     fn from(error: io::Error) -> Failure {
-        Failure::Io(error)
+        match error.kind() {
+            ErrorKind::OutOfMemory => Failure::OutOfMemory,
+            _ => Failure::Io(error),
+        }
     }
 }
 
 impl From<AllocError> for Failure {
     fn from(_error: AllocError) -> Failure {
-        Failure::OutOfMemory
-    }
-}
-
-impl<T: Drop> From<AllocFailed<T>> for Failure {
-    fn from(_refused: AllocFailed<T>) -> Failure {
         Failure::OutOfMemory
     }
 }

@@ -1,5 +1,5 @@
 // Prints the summary of a log.
-use recovery_log::{JobSummary, Summary};
+use recovery_log::Summary;
 use std::io;
 use std::io::Write;
 
@@ -8,36 +8,21 @@ pub(crate) fn print_summary<W: Write>(out: &mut W, summary: &Summary) -> io::Res
     print_jobs(out, summary)?;
     print_pages(out, summary)?;
     match summary.checkpoint {
-        Some(checkpoint) => {
-            let begin = checkpoint.begin;
-            let end = checkpoint.end;
-            writeln!(out, "last complete checkpoint: slots {begin} to {end}")
-        }
+        Some(checkpoint) => writeln!(out, "last complete checkpoint: {checkpoint}"),
         None => writeln!(out, "no complete checkpoint"),
     }
 }
 
-const KINDS: [&str; 10] = [
-    "does not fit",
-    "open",
-    "change",
-    "compensation",
-    "commit",
-    "end",
-    "checkpoint begin",
-    "checkpoint page",
-    "checkpoint job",
-    "checkpoint end",
-];
-
 fn print_counts<W: Write>(out: &mut W, summary: &Summary) -> io::Result<()> {
     let slots = summary.slots;
+    let misfits = summary.misfits;
     writeln!(out)?;
     writeln!(out, "slots: {slots}")?;
-    for (count, kind) in summary.counts.iter().zip(KINDS.iter()) {
-        if *count > 0 {
-            writeln!(out, "{count:>6}  {kind}")?;
-        }
+    if misfits > 0 {
+        writeln!(out, "{misfits:>6}  does not fit")?;
+    }
+    for (kind, count) in summary.kinds.iter() {
+        writeln!(out, "{count:>6}  {kind}")?;
     }
     Ok(())
 }
@@ -46,28 +31,9 @@ fn print_jobs<W: Write>(out: &mut W, summary: &Summary) -> io::Result<()> {
     let jobs = summary.jobs.len();
     writeln!(out, "jobs: {jobs}")?;
     for (job, state) in summary.jobs.iter() {
-        write!(out, "{job:>6}  ")?;
-        print_state(out, state)?;
-        let pending = state.not_taken_back;
-        match pending {
-            0 => writeln!(out)?,
-            1 => writeln!(out, ", 1 change not taken back")?,
-            _ => writeln!(out, ", {pending} changes not taken back")?,
-        }
+        writeln!(out, "{job:>6}  {state}")?;
     }
     Ok(())
-}
-
-fn print_state<W: Write>(out: &mut W, state: &JobSummary) -> io::Result<()> {
-    if state.open {
-        write!(out, "open")
-    } else if state.committed {
-        write!(out, "committed")
-    } else if state.ended {
-        write!(out, "ended")
-    } else {
-        write!(out, "never opened")
-    }
 }
 
 fn print_pages<W: Write>(out: &mut W, summary: &Summary) -> io::Result<()> {

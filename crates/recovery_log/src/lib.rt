@@ -5,6 +5,7 @@ mod error;
 mod jobs;
 mod making;
 mod summary;
+mod words;
 
 pub use error::NoteError;
 pub use jobs::JobSummary;
