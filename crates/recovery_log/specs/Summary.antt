@@ -1,8 +1,9 @@
 -- What a summary tells of a log. Assumes nothing.
-use Rattle.std.specs.Prelude.{◌≡◌, ℕ, ◌+◌, ◌-◌, ◌^◌, ◌<◌, min, Bool, false, ◌||◌, [], ◌∷◌, length, is_some, Some, None, Ok, Err, Option, Result, ◌==◌, ⊤}
+use Rattle.std.specs.Prelude.{◌≡◌, ℕ, ◌+◌, ◌-◌, ◌^◌, ◌<◌, min, Bool, false, ◌||◌, [], ◌∷◌, length, is_some, Some, None, Ok, Err, Option, Result, ◌==◌, nat_lt, ⊤}
 use Rattle.std.specs.BTreeMap.{BTreeMap}
 use Rattle.std.specs.BTreeMap.{IsOrdered, get}
 use Rattle.std.specs.BTreeSet as sets
+use Rattle.std.specs.Bool.{then_some}
 use Rattle.std.specs.Option.{unwrap_or, option_map}
 use Rattle.format.specs.declared.slot.Slot.{Slot}
 use Rattle.format.specs.declared.slot.Slot.TheVariants.{Record, Job, Checkpoint}
@@ -72,10 +73,10 @@ module _ {C : Type 0} where
     pub ordered : IsOrdered nat_cmp m
     pub each : (p : ℕ) → get nat_cmp m p ≡ newest_lrc L p
 
-  -- a kind without an entry has no slot
+  -- a kind that has no slot has no entry
   pub record TellsKinds (kinds : BTreeMap SlotKind ℕ) (L : Log C) : Type 0 where
     pub ordered : IsOrdered kind_cmp kinds
-    pub each : (k : SlotKind) → unwrap_or (get kind_cmp kinds k) 0 ≡ how_many k L
+    pub each : (k : SlotKind) → get kind_cmp kinds k ≡ then_some (nat_lt 0 (how_many k L)) (how_many k L)
 
 -- Checkpoints
 

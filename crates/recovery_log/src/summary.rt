@@ -21,7 +21,7 @@ pub struct Summary {
     pub pages: BTreeMap<u8, u32>,
     // How many slots do not fit.
     pub misfits: u32,
-    // How many slots there are of each kind; a kind without an entry has none.
+    // How many slots there are of each kind that has any.
     pub kinds: BTreeMap<SlotKind, u32>,
     // The newest that is complete.
     pub checkpoint: Option<Checkpoint>,
