@@ -1,3 +1,2 @@
-pub mod Puts
 pub mod JobSteps
 pub mod Counting
