@@ -38,6 +38,7 @@ fn dump_slots<C: Change + fmt::Display + Copy, R: Read + Drop, W: Write>(
     pages: u32,
 ) -> Result<(), Failure> {
     let mut row = Vec::with_capacity(heap, 60)?;
+    // Every loop has to end, and no image has so many slots.
     for _ in 0..u64::MAX {
         row.clear();
         reader.by_ref().take(60).read_to_end(&mut row)?;

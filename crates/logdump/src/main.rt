@@ -37,6 +37,7 @@ fn run(rt: &HostRuntime) -> Result<(), Failure> {
     }
 }
 
+// The kind of change is an argument of the program, and a type of the library: each kind has a printing of its own.
 fn of_kind<R: Read + Drop>(
     rt: &HostRuntime,
     reader: R,

@@ -14,14 +14,18 @@ pub(crate) fn print_summary<W: Write>(out: &mut W, summary: &Summary) -> io::Res
 }
 
 fn print_counts<W: Write>(out: &mut W, summary: &Summary) -> io::Result<()> {
-    let slots = summary.slots;
-    let misfits = summary.misfits;
+    let Summary {
+        slots,
+        misfits,
+        kinds,
+        ..
+    } = summary;
     writeln!(out)?;
     writeln!(out, "slots: {slots}")?;
-    if misfits > 0 {
+    if *misfits > 0 {
         writeln!(out, "{misfits:>6}  does not fit")?;
     }
-    for (kind, count) in summary.kinds.iter() {
+    for (kind, count) in kinds {
         writeln!(out, "{count:>6}  {kind}")?;
     }
     Ok(())
@@ -30,7 +34,7 @@ fn print_counts<W: Write>(out: &mut W, summary: &Summary) -> io::Result<()> {
 fn print_jobs<W: Write>(out: &mut W, summary: &Summary) -> io::Result<()> {
     let jobs = summary.jobs.len();
     writeln!(out, "jobs: {jobs}")?;
-    for (job, state) in summary.jobs.iter() {
+    for (job, state) in &summary.jobs {
         writeln!(out, "{job:>6}  {state}")?;
     }
     Ok(())
@@ -39,7 +43,7 @@ fn print_jobs<W: Write>(out: &mut W, summary: &Summary) -> io::Result<()> {
 fn print_pages<W: Write>(out: &mut W, summary: &Summary) -> io::Result<()> {
     let pages = summary.pages.len();
     writeln!(out, "pages touched: {pages}")?;
-    for (page, lrc) in summary.pages.iter() {
+    for (page, lrc) in &summary.pages {
         writeln!(out, "{page:>6}  LRC {lrc}")?;
     }
     Ok(())

@@ -88,18 +88,19 @@ fn newest<C>(
 ) -> Option<Checkpoint>
     ensures { (L : Log C) → number ≡ new_number L → TellsMaking (option_map (λ x. x.now) draft.entry) (making L) → was ≡ complete L → result ≡ complete (option_map (λ x. x.now) slot.entry ∷ L) }
 {
-    match (slot, draft) {
-        (Some(Slot::Checkpoint(CheckpointPart::Complete { begin })), Some(draft))
-            if draft.begin == *begin => {
-            Some(Checkpoint {
-                begin: *begin,
-                end: number,
-            })
-        }
+    let Some(Slot::Checkpoint(CheckpointPart::Complete { begin })) = slot else {
+        return was;
+    };
+    match draft {
+        Some(draft) if draft.begin == *begin => Some(Checkpoint {
+            begin: *begin,
+            end: number,
+        }),
         _ => was,
     }
 }
 
+// A count is at most the number of slots, so it never stops at the greatest number; alone it does not know that.
 #[tactic(auto, using(crate::proofs::Counting::how_many_misfits_most))]
 fn note_misfit<C>(misfits: &mut u32, slot: Option<&Slot<C>>)
     ensures { (L : Log C) → length L < 2 ^ 32 - 1 → misfits.old ≡ how_many_misfits L → misfits.new ≡ how_many_misfits (option_map (λ x. x.now) slot.entry ∷ L) }
