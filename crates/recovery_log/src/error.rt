@@ -3,13 +3,16 @@ ghost use Rattle.std.specs.Prelude.{◌≡◌};
 ghost use Rattle.recovery_log.specs.declared.error.NoteError.TheVariants.{OutOfMemory};
 
 use std::alloc::AllocError;
+use std::error::Error;
 
-#[derive(Clone, Copy, Debug)]
+#[derive(Clone, Copy, Debug, PartialEq, Eq)]
 pub enum NoteError {
     OutOfMemory,
     // A slot's number has four bytes.
     TooManySlots,
 }
+
+impl Error for NoteError {}
 
 impl From<AllocError> for NoteError {
     ghost from_gives = { λ _ r. r ≡ OutOfMemory };

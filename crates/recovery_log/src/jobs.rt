@@ -9,7 +9,7 @@ use std::alloc::AllocError;
 use std::collections::BTreeMap;
 
 // The three facts are independent of each other in a log of any bytes: a job can be committed, ended and open again.
-#[derive(Clone, Copy, Default)]
+#[derive(Clone, Copy, Debug, Default, PartialEq, Eq)]
 pub struct JobSummary {
     // Its newest event is its open.
     pub open: bool,

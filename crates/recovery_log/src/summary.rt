@@ -31,7 +31,7 @@ pub struct Summary {
 }
 
 // By the numbers of its begin and of its end.
-#[derive(Clone, Copy)]
+#[derive(Clone, Copy, Debug, PartialEq, Eq)]
 pub struct Checkpoint {
     pub begin: u32,
     pub end: u32,
@@ -155,9 +155,13 @@ mod tests {
         summary.note(Some(&record(Action::Put, 1, 0)))?;
         summary.note(Some(&record(Action::Put, 2, 2)))?;
         summary.note(Some(&record(Action::TakeBack, 3, 2)))?;
-        let job = summary.jobs.get(&7).copied().ok_or("no job 7")?;
-        assert!(rt; job.open && !job.committed && !job.ended);
-        assert_eq!(rt; job.not_taken_back, 1);
+        let job = JobSummary {
+            open: true,
+            committed: false,
+            ended: false,
+            not_taken_back: 1,
+        };
+        assert_eq!(rt; summary.jobs.get(&7).copied(), Some(job));
         assert_eq!(rt; summary.pages.get(&3).copied(), Some(3));
         assert_eq!(rt; summary.misfits, 0);
         let kinds = summary.kinds.iter().map(|(kind, count)| (*kind, *count));
@@ -182,8 +186,7 @@ mod tests {
         summary.note(Some(&page))?;
         summary.note(Some(&page))?;
         summary.note(Some(&complete(4)))?;
-        let newest = summary.checkpoint.ok_or("no checkpoint")?;
-        assert_eq!(rt; (newest.begin, newest.end), (1, 3));
+        assert_eq!(rt; summary.checkpoint, Some(Checkpoint { begin: 1, end: 3 }));
         Ok(())
     }
 }
