@@ -6,9 +6,11 @@ use Rattle.format.specs.Slots.{kind_number}
 use Rattle.recovery_log.specs.Log.{Log, how_many_misfits, how_many}
 use Rattle.recovery_log.specs.Summary.{kind_cmp}
 
+-- a map by kind finds a key by the number of the kind
 pub kinds_tied : (a b : SlotKind) → is_at (kind_cmp a) b ≡ eqb (kind_number a) (kind_number b)
 kinds_tied a b = search rules
 
+-- a kind is told by its number
 pub same_kind : (a b : SlotKind) → eqb (kind_number a) (kind_number b) ≡ true → a ≡ b
 same_kind a b = search rules
 
