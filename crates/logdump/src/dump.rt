@@ -8,7 +8,7 @@ use format::{Change, Slot};
 use paged_log::PagedLog;
 use recovery_log::Summary;
 use std::alloc::Global;
-use std::io::{BufWriter, Read, Write};
+use std::io::{BufWriter, ErrorKind, Read, Write};
 use std::{fmt, io};
 
 pub(crate) fn dump<C: Change + fmt::Display + Copy, R: Read + Drop>(
@@ -60,7 +60,13 @@ fn dump_pages<C: Change + fmt::Display + Copy, R: Read + Drop, W: Write>(
     pages: u32,
 ) -> Result<(), Failure> {
     let mut bytes = Vec::new(heap);
-    reader.read_to_end(&mut bytes)?;
+    // An image that is too large for memory is no fault of the input.
+    reader
+        .read_to_end(&mut bytes)
+        .map_err(|error| match error.kind() {
+            ErrorKind::OutOfMemory => Failure::OutOfMemory,
+            _ => Failure::Io(error),
+        })?;
     let (image, rest) = bytes.as_mut_slice().as_chunks_mut::<256>();
     print_rest(out, rest.len(), "page")?;
     let log = PagedLog::new(battery_pages(image, PowerCut::NEVER));
