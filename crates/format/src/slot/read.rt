@@ -32,31 +32,29 @@ fn slot<C: Change>(fields: &Fields) -> Option<Slot<C>>
 {
     let job = fields.job;
     let link = fields.link;
-    match fields.kind {
-        SlotKind::Open => Some(Slot::Job {
+    Some(match fields.kind {
+        SlotKind::Open => Slot::Job {
             event: JobEvent::Open,
             job,
-        }),
-        SlotKind::Change => record(Action::Put, fields),
-        SlotKind::Compensation => record(Action::TakeBack, fields),
-        SlotKind::Commit => Some(Slot::Job {
+        },
+        SlotKind::Change => record(Action::Put, fields)?,
+        SlotKind::Compensation => record(Action::TakeBack, fields)?,
+        SlotKind::Commit => Slot::Job {
             event: JobEvent::Commit,
             job,
-        }),
-        SlotKind::End => Some(Slot::Job {
+        },
+        SlotKind::End => Slot::Job {
             event: JobEvent::End,
             job,
-        }),
-        SlotKind::CheckpointBegin => Some(Slot::Checkpoint(CheckpointPart::Begin)),
-        SlotKind::CheckpointPage => Some(Slot::Checkpoint(CheckpointPart::DirtyPage {
+        },
+        SlotKind::CheckpointBegin => Slot::Checkpoint(CheckpointPart::Begin),
+        SlotKind::CheckpointPage => Slot::Checkpoint(CheckpointPart::DirtyPage {
             page: fields.page,
             start: link,
-        })),
-        SlotKind::CheckpointJob => {
-            Some(Slot::Checkpoint(CheckpointPart::OpenJob { job, next: link }))
-        }
-        SlotKind::CheckpointEnd => Some(Slot::Checkpoint(CheckpointPart::Complete { begin: link })),
-    }
+        }),
+        SlotKind::CheckpointJob => Slot::Checkpoint(CheckpointPart::OpenJob { job, next: link }),
+        SlotKind::CheckpointEnd => Slot::Checkpoint(CheckpointPart::Complete { begin: link }),
+    })
 }
 
 fn record<C: Change>(action: Action, fields: &Fields) -> Option<Slot<C>>
