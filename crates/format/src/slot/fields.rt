@@ -76,7 +76,8 @@ const KINDS: [(SlotKind, Uses); 9] = [
 fn uses_of(kind: SlotKind) -> Uses
     ensures { result ≡ uses_of kind }
 {
-    let (_, uses) = KINDS[kind as usize - 1];
+    let (row_kind, uses) = KINDS[kind as usize - 1];
+    prove!(row_kind == kind);
     uses
 }
 
