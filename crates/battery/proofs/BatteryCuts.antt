@@ -1,18 +1,32 @@
 -- The count of battery memory's writes or forces comes to the number that was set, once.
-use Rattle.std.proofs.Common.{◌≡◌, ℕ, zero, suc, pred, ◌-◌, eqb, arith}
+use Rattle.std.proofs.Common.{◌≡◌, ℕ, zero, suc, min, false, cond, Option, Some, None, ◌∙◌, ap, eqb, refl, arith}
 use Rattle.std.proofs.lemmas.Bool.Decides.{nat_tests}
 use Rattle.battery.specs.declared.PowerCut.{PowerCut}
-use Rattle.battery.specs.Batteries.{cut_after, LostOnce}
+use Rattle.battery.specs.Batteries.{cut_at, cuts_now, next_cut, cut_after, LostIn, LostOnce, standing}
 
-one_nearer : (k a n : ℕ) → k ≡ a - n → pred k ≡ a - suc n
-one_nearer k a n e = omega arith
+-- a step now is a step then
+next_first : (n : ℕ) (c : Option PowerCut) → cut_after (suc n) c ≡ cut_after n (next_cut c)
+next_first zero c = refl
+next_first (suc n) c = ap next_cut (next_first n c)
 
-left_after : (n : ℕ) (c : PowerCut) → (cut_after n c).at ≡ c.at - n
-left_after zero c = omega arith
-left_after (suc n) c = one_nearer (cut_after n c).at c.at n (left_after n c)
+-- with no cut no power is lost
+never : (n : ℕ) → cuts_now (cut_after n None) ≡ false
+never zero = refl
+never (suc n) = ap cuts_now (next_first n None) ∙ never n
 
-once_by : (a n k : ℕ) → k ≡ a - n → eqb k 1 ≡ eqb a (suc n)
-once_by a n k e = grind (arith, nat_tests)
+one_on : (a b : ℕ) → eqb a b ≡ eqb (suc a) (suc b)
+one_on a b = grind (arith, nat_tests)
 
-pub lost_once : (c : PowerCut) → LostOnce c
-lost_once c n = once_by c.at n (cut_after n c).at (left_after n c)
+pub lost_at : (number stands : ℕ) → LostIn (cut_at number stands) (eqb number)
+lost_at zero stands n = let e = never n in grind (arith, nat_tests)
+lost_at (suc k) stands zero = one_on k 0
+lost_at (suc k) stands (suc n) = ap cuts_now (next_first n (cut_at (suc k) stands)) ∙ lost_at k stands n ∙ one_on k (suc n)
+
+pub lost_once : (c : Option PowerCut) → LostOnce c
+lost_once None n = never n
+lost_once (Some c) n = lost_at (suc c.after) c.stands n
+
+-- where no power is lost, all that is new stands
+pub all_stand : (c : Option PowerCut) (new : ℕ) → cuts_now c ≡ false → standing c new ≡ new
+all_stand None new e = refl
+all_stand (Some c) new e = ap (λ b. cond b (min new c.stands) new) e

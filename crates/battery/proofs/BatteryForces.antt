@@ -3,9 +3,10 @@ use Rattle.std.proofs.Common.{◌≡◌, ℕ, ◌+◌, ◌-◌, ◌<◌, min, Bo
 use Rattle.device.specs.declared.log_store.LogFault.TheVariants.{PowerLost}
 use Rattle.device.specs.Memory.{as_bytes}
 use Rattle.device.specs.LogStores.{LogModel, SlotAppended, LogForced, powered_on}
-use Rattle.battery.specs.Batteries.{Held, room, in_use, now_forced, cuts_now, forced_on, appended, cut_back}
+use Rattle.battery.specs.Batteries.{Held, room, in_use, now_forced, cuts_now, standing, forced_on, appended, cut_back}
 use Rattle.battery.specs.BatteryStores.{rows, most_slots, log_model, BatteryForced}
 use Rattle.battery.specs.BatterySound.{length_rows}
+use Rattle.battery.proofs.BatteryCuts.{all_stand}
 use Rattle.battery.proofs.BatteryRows.{rows_appended, rows_cut_back}
 use Rattle.battery.proofs.BatteryWrites.{stayed, went}
 
@@ -27,16 +28,17 @@ slot_appended before after x is on fits did =
     SlotAppended.done on (omega arith) (now_forced most_slots before) (omega arith) (omega arith) refl
     (ap log_model did ∙ log_is same (rows_appended 60 most_slots before x is fits) count on)
 
--- how far a force comes, by whether power is lost in it
-abbrev come : Held (List ℕ) → Bool → ℕ
-come h lost = let new = in_use most_slots h - now_forced most_slots h in now_forced most_slots h + cond lost (min new h.cut.stands) new
-
 module _ (before after : Held (List ℕ)) (on : before.powered ≡ true) (did : after ≡ forced_on most_slots before) where
-  abbrev left : Bool → LogModel
-  left lost = log (room most_slots before) (rows 60 most_slots before) (min (come before lost) (in_use most_slots before)) (cond lost false before.powered)
+  -- how many of the new slots stand
+  stand : ℕ
+  stand = standing before.cut (in_use most_slots before - now_forced most_slots before)
 
-  by_cut : (b : Bool) → cuts_now before.cut ≡ b → log_model after ≡ left b
-  by_cut b e = ap log_model did ∙ ap left e
+  abbrev left : ℕ → Bool → LogModel
+  left new lost = log (room most_slots before) (rows 60 most_slots before) (min (now_forced most_slots before + new) (in_use most_slots before)) (cond lost false before.powered)
+
+  by_cut : (b : Bool) → cuts_now before.cut ≡ b → log_model after ≡ left stand b
+  unfolding stand
+  by_cut b e = ap log_model did ∙ ap (left stand) e
 
   no_cut : after.powered ≡ true → cuts_now before.cut ≡ false
   no_cut kept = stayed (cuts_now before.cut) before.powered (sym (ap (λ h. h.powered) did) ∙ kept)
@@ -45,15 +47,17 @@ module _ (before after : Held (List ℕ)) (on : before.powered ≡ true) (did : 
   the_cut lost = went (cuts_now before.cut) before.powered on (sym (ap (λ h. h.powered) did) ∙ lost)
 
   pub force_done : after.powered ≡ true → LogForced (log_model before) (Ok tt) (log_model after)
+  unfolding stand
   force_done kept =
       let e = length_rows 60 most_slots before in
-      let all : min (come before false) (in_use most_slots before) ≡ length (rows 60 most_slots before) = omega arith in
+      let none_lost = all_stand before.cut (in_use most_slots before - now_forced most_slots before) (no_cut kept) in
+      let all : min (now_forced most_slots before + stand) (in_use most_slots before) ≡ length (rows 60 most_slots before) = omega arith in
       LogForced.done on refl (by_cut false (no_cut kept) ∙ log_is refl refl all on)
 
   pub force_lost : (n : ℕ) → n ≡ in_use most_slots before → after.powered ≡ false → LogForced (log_model before) (Err (PowerLost n)) (log_model after)
   force_lost n is lost =
       let e = length_rows 60 most_slots before in
-      LogForced.lost on (min (come before true) (in_use most_slots before)) (omega arith) (omega arith) (ap (λ k. Err (PowerLost k)) (is ∙ sym e)) (by_cut true (the_cut lost))
+      LogForced.lost on (min (now_forced most_slots before + stand) (in_use most_slots before)) (omega arith) (omega arith) (ap (λ k. Err (PowerLost k)) (is ∙ sym e)) (by_cut true (the_cut lost))
 
   pub rule_done : after.powered ≡ true → BatteryForced before (Ok tt) after
   rule_done kept = BatteryForced.done on (no_cut kept) refl did

@@ -1,13 +1,14 @@
 -- A page written in battery memory: what the write makes of the model, and that power is lost where it was set.
-use Rattle.std.proofs.Common.{◌≡◌, ℕ, ◌<◌, min, Bool, true, false, cond, eqb, ltb, List, length, set, Ok, Err, Result, sym, refl, ap, ◌∙◌, arith, MatchResult}
+use Rattle.std.proofs.Common.{◌≡◌, ℕ, ◌<◌, min, Bool, true, false, cond, eqb, ltb, List, None, length, set, Ok, Err, Result, sym, refl, ap, ◌∙◌, arith, MatchResult}
 use Rattle.std.proofs.lemmas.Bool.{true≢false, lt-ltb, le-ltb}
 use Rattle.device.specs.declared.page_store.PageFault.{PageFault}
 use Rattle.device.specs.declared.page_store.PageFault.TheVariants.{PowerLost, Outside}
 use Rattle.device.specs.Memory.{as_bytes}
 use Rattle.device.specs.PageStores.{PageModel, PageWritten}
-use Rattle.battery.specs.Batteries.{Held, made, in_use, cuts_now, next_cut, written}
+use Rattle.battery.specs.Batteries.{Held, made, in_use, cuts_now, next_cut, standing, written}
 use Rattle.battery.specs.BatteryStores.{most_pages, pages_model, BatteryWrote}
 use Rattle.battery.specs.BatterySound.{length_rows}
+use Rattle.battery.proofs.BatteryCuts.{all_stand}
 use Rattle.battery.proofs.BatteryRows.{rows_set}
 
 -- power stayed, or was lost
@@ -39,8 +40,8 @@ module _ (before after : Held (List ℕ)) (at : ℕ) (x : List ℕ) (is : as_byt
   inside_model : at < length (pages_model before).pages
   inside_model = let e = length_rows 256 most_pages before in omega arith
 
-  by_cut : (b : Bool) → cuts_now before.cut ≡ b → pages_model after ≡ left before at x (eqb (cond b (min 1 before.cut.stands) 1) 0) b
-  by_cut b e = ap pages_model wrote ∙ ap (λ b. left before at x (eqb (cond b (min 1 before.cut.stands) 1) 0) b) e
+  by_cut : (b : Bool) → cuts_now before.cut ≡ b → pages_model after ≡ left before at x (eqb (standing before.cut 1) 0) b
+  by_cut b e = ap pages_model wrote ∙ ap (left before at x (eqb (standing before.cut 1) 0)) e
 
   no_cut : after.powered ≡ true → cuts_now before.cut ≡ false
   no_cut kept = stayed (cuts_now before.cut) before.powered (sym (ap (λ h. h.powered) wrote) ∙ kept)
@@ -49,14 +50,15 @@ module _ (before after : Held (List ℕ)) (at : ℕ) (x : List ℕ) (is : as_byt
   the_cut lost = went (cuts_now before.cut) before.powered on (sym (ap (λ h. h.powered) wrote) ∙ lost)
 
   pub page_done : after.powered ≡ true → PageWritten (pages_model before) at x (Ok tt) (pages_model after)
-  page_done kept = PageWritten.done on inside_model refl (by_cut false (no_cut kept) ∙ left_new before at x false is)
+  page_done kept = PageWritten.done on inside_model refl
+      (by_cut false (no_cut kept) ∙ ap (λ k. left before at x (eqb k 0) false) (all_stand before.cut 1 (no_cut kept)) ∙ left_new before at x false is)
 
   lost_by : (old : Bool) → pages_model after ≡ left before at x old true → PageWritten (pages_model before) at x (Err (PowerLost at)) (pages_model after)
   lost_by true e = PageWritten.lost_old on inside_model refl e
   lost_by false e = PageWritten.lost_new on inside_model refl (e ∙ left_new before at x true is)
 
   pub page_lost : after.powered ≡ false → PageWritten (pages_model before) at x (Err (PowerLost at)) (pages_model after)
-  page_lost lost = lost_by (eqb (min 1 before.cut.stands) 0) (by_cut true (the_cut lost))
+  page_lost lost = lost_by (eqb (standing before.cut 1) 0) (by_cut true (the_cut lost))
 
   pub rule_done : after.powered ≡ true → BatteryWrote before at x (Ok tt) after
   rule_done kept = BatteryWrote.done on inside (no_cut kept) refl wrote
@@ -66,7 +68,7 @@ module _ (before after : Held (List ℕ)) (at : ℕ) (x : List ℕ) (is : as_byt
 
 -- With power that is never lost the page is written if it is there, and the owner has the memory back with the page in it, or as it was.
 pub owner_told : (memory : List (List ℕ)) (at : ℕ) (x : List ℕ) (r : Result (Unit {0}) PageFault) (before after : Held (List ℕ))
-    → before ≡ made memory (length memory) (record { at = 0; stands = 0 }) → BatteryWrote before at x r after
+    → before ≡ made memory (length memory) (None) → BatteryWrote before at x r after
     → r ≡ cond (ltb at (min (length memory) most_pages)) (Ok tt) (Err Outside)
 owner_told memory at x r before after m (BatteryWrote.no_power off e same) = absurd (true≢false (sym (ap (λ h. h.powered) m) ∙ off))
 owner_told memory at x r before after m (BatteryWrote.outside on out e same) =
@@ -76,7 +78,7 @@ owner_told memory at x r before after m (BatteryWrote.done on inside no_cut e wr
 owner_told memory at x r before after m (BatteryWrote.lost on inside cut e wrote) = absurd (true≢false (sym cut ∙ ap (λ h. cuts_now h.cut) m))
 
 pub owner_has : (memory : List (List ℕ)) (at : ℕ) (x : List ℕ) (r : Result (Unit {0}) PageFault) (before after : Held (List ℕ)) {ys : List (List ℕ)}
-    → before ≡ made memory (length memory) (record { at = 0; stands = 0 }) → BatteryWrote before at x r after → ys ≡ after.cells
+    → before ≡ made memory (length memory) (None) → BatteryWrote before at x r after → ys ≡ after.cells
     → MatchResult r (λ _. ys ≡ set memory at x) (λ _. ys ≡ memory)
 owner_has memory at x r before after m (BatteryWrote.no_power off e same) back = absurd (true≢false (sym (ap (λ h. h.powered) m) ∙ off))
 owner_has memory at x r before after m (BatteryWrote.outside on out e same) back = rw e (back ∙ ap (λ h. h.cells) (same ∙ m))

@@ -1,5 +1,5 @@
 -- What battery memory holds, and what each operation makes of it, for elements of any type. Assumes nothing.
-use Rattle.std.specs.Prelude.{◌≡◌, ℕ, zero, suc, pred, ◌+◌, ◌-◌, min, Bool, true, false, cond, List, length, ◌==◌, slice_set}
+use Rattle.std.specs.Prelude.{◌≡◌, ℕ, zero, suc, ◌+◌, ◌-◌, min, Bool, true, false, cond, List, Option, Some, None, length, ◌==◌, slice_set}
 use Rattle.battery.specs.declared.PowerCut.{PowerCut}
 use Rattle.battery.specs.declared.Battery.{Battery}
 
@@ -9,13 +9,13 @@ pub record Held (E : Type 0) : Type 0 where
   pub used : ℕ
   pub forced : ℕ
   pub powered : Bool
-  pub cut : PowerCut
+  pub cut : Option PowerCut
 
 abbrev pub held : {E : Type 0} → Battery E → Held E
 held b = record { cells = b.cells.now; used = b.used; forced = b.forced; powered = b.powered; cut = b.cut }
 
 -- at the making there is power, and what is in use stands
-abbrev pub made : {E : Type 0} → List E → ℕ → PowerCut → Held E
+abbrev pub made : {E : Type 0} → List E → ℕ → Option PowerCut → Held E
 made cells used cut = record { cells = cells; used = used; forced = used; powered = true; cut = cut }
 
 -- how many elements there may be, where the numbers of a store end before `most`
@@ -28,26 +28,43 @@ in_use most h = min h.used (room most h)
 abbrev pub now_forced : {E : Type 0} → ℕ → Held E → ℕ
 now_forced most h = min h.forced (in_use most h)
 
--- power is lost in this write or force
-abbrev pub cuts_now : PowerCut → Bool
-cuts_now c = c.at == 1
+-- power is lost in the write or force of this number, counted from 1, and at 0 in none
+abbrev pub cut_at : ℕ → ℕ → Option PowerCut
+cut_at zero stands = None
+cut_at (suc n) stands = Some (record { after = n; stands = stands })
 
--- the cut after this write or force: it is one nearer, and 0, never, stays
-abbrev pub next_cut : PowerCut → PowerCut
-next_cut c = record { at = pred c.at; stands = c.stands }
+-- power is lost in this write or force
+abbrev pub cuts_now : Option PowerCut → Bool
+cuts_now None = false
+cuts_now (Some c) = c.after == 0
+
+-- the cut after this write or force: it is one nearer, and once it was this one there is none
+abbrev pub next_cut : Option PowerCut → Option PowerCut
+next_cut None = None
+next_cut (Some c) = cut_at c.after c.stands
 
 -- the cut after so many writes or forces
-abbrev pub cut_after : ℕ → PowerCut → PowerCut
+abbrev pub cut_after : ℕ → Option PowerCut → Option PowerCut
 cut_after zero c = c
 cut_after (suc n) c = next_cut (cut_after n c)
 
--- counted from 1, power is lost in the one whose number was set, and in no other
-abbrev pub LostOnce : PowerCut → Type 0
-LostOnce c = (n : ℕ) → cuts_now (cut_after n c) ≡ (c.at == suc n)
+-- counted from 1, power is lost in those of these numbers, and in no other
+abbrev pub LostIn : Option PowerCut → (ℕ → Bool) → Type 0
+LostIn c numbers = (n : ℕ) → cuts_now (cut_after n c) ≡ numbers (suc n)
+
+-- the number that was set
+abbrev pub is_set : Option PowerCut → ℕ → Bool
+is_set None n = false
+is_set (Some c) n = suc c.after == n
+
+-- power is lost in the one whose number was set, and in no other
+abbrev pub LostOnce : Option PowerCut → Type 0
+LostOnce c = LostIn c (is_set c)
 
 -- how many stand of the new elements that this write or force brings
-abbrev pub standing : PowerCut → ℕ → ℕ
-standing c new = cond (cuts_now c) (min new c.stands) new
+abbrev pub standing : Option PowerCut → ℕ → ℕ
+standing None new = new
+standing (Some c) new = cond (c.after == 0) (min new c.stands) new
 
 -- a write or force is counted, and power is lost in it if it is the one
 abbrev pub counted : {E : Type 0} → Held E → List E → ℕ → Held E

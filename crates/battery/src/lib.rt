@@ -1,8 +1,8 @@
 // Battery memory: a store in memory that its owner lends, whose power is lost at most once, where its maker sets it.
 #![tactic(auto)]
 
-ghost use Rattle.std.specs.Prelude.{◌≡◌, ◌<◌, length, slice_index_or};
-ghost use Rattle.battery.specs.Batteries.{held, made, room, in_use, now_forced, standing, counted, written, forced_on, appended, on_again, cut_back};
+ghost use Rattle.std.specs.Prelude.{◌≡◌, ◌<◌, ◌==◌, length, slice_index_or};
+ghost use Rattle.battery.specs.Batteries.{cut_at, LostIn, held, made, room, in_use, now_forced, standing, counted, written, forced_on, appended, on_again, cut_back};
 
 mod owners;
 mod pages;
@@ -12,11 +12,11 @@ pub use owners::write_in_memory;
 pub use pages::battery_pages;
 pub use slots::battery_log;
 
-// The write (pages) or force (log) at which power is lost, counted from 1 while there is power, or 0 for never,
-// and how many of the new elements that it brings stand then: all, if it brings fewer.
+// Power is lost after so many writes (pages) or forces (log) with power, in the next one; of the new elements that
+// this one brings so many stand: all, if it brings fewer.
 #[derive(Clone, Copy)]
 pub struct PowerCut {
-    pub at: u64,
+    pub after: u64,
     pub stands: u32,
 }
 
@@ -27,16 +27,24 @@ pub struct Battery<'a, E> {
     used: usize,
     forced: usize,
     powered: bool,
-    cut: PowerCut,
+    // The loss of power to come, if any.
+    cut: Option<PowerCut>,
 }
 
 impl PowerCut {
-    pub const NEVER: PowerCut = PowerCut { at: 0, stands: 0 };
+    // Power is lost in the write or force of this number, counted from 1; at 0 in none.
+    pub fn at(number: u64, stands: u32) -> Option<PowerCut>
+        ensures value { result ≡ cut_at number stands }
+        ensures once { LostIn result (λ n. number == n) }
+    {
+        let after = number.checked_sub(1)?;
+        Some(PowerCut { after, stands })
+    }
 }
 
 impl<'a, E> Battery<'a, E> {
     // What is in use at the making stands.
-    fn new(cells: &'a mut [E], used: usize, cut: PowerCut) -> Battery<'a, E>
+    fn new(cells: &'a mut [E], used: usize, cut: Option<PowerCut>) -> Battery<'a, E>
         ensures held { held result ≡ made cells.old used cut }
         ensures lent { result.cells.ghost_name ≡ cells.entry.ghost_name }
     {
@@ -133,12 +141,14 @@ impl<E: Copy> Battery<'_, E> {
         ensures held { held self.new ≡ counted (held self.old) self.old.cells.now self.old.forced }
         ensures lent { self.new.cells.ghost_name ≡ self.old.cells.ghost_name }
     {
-        let lost = self.cut.at == 1;
-        self.cut.at = self.cut.at.saturating_sub(1);
-        if !lost {
+        let Some(cut) = self.cut else {
+            return new;
+        };
+        self.cut = PowerCut::at(cut.after, cut.stands);
+        if cut.after > 0 {
             return new;
         }
         self.powered = false;
-        new.min(self.cut.stands as usize)
+        new.min(cut.stands as usize)
     }
 }

@@ -3,7 +3,7 @@ ghost use Rattle.std.specs.Prelude.{◌≡◌, min, length, if◌then◌else◌,
 ghost use Rattle.device.specs.declared.page_store.PageFault.TheVariants.{Outside};
 ghost use Rattle.battery.specs.BatteryStores.{most_pages};
 
-use crate::{PowerCut, battery_pages};
+use crate::battery_pages;
 use device::{PageFault, PageStore};
 
 // Writes one page through a store over the memory.
@@ -15,6 +15,6 @@ pub fn write_in_memory(
     ensures value { result ≡ (if (nat_lt page (min (length memory.old) most_pages)) then Ok tt else Err Outside) }
     ensures memory { MatchResult result (λ _. memory.new ≡ slice_set memory.old page bytes.now) (λ _. memory.new ≡ memory.old) }
 {
-    let mut store = battery_pages(memory, PowerCut::NEVER);
+    let mut store = battery_pages(memory, None);
     store.write(page, bytes)
 }

@@ -12,7 +12,10 @@ use device::{PageFault, PageStore};
 const MOST: usize = 65_536;
 
 // The pages are as found in the memory, of which there may be 65,536.
-pub fn battery_pages<'a>(memory: &'a mut [[u8; 256]], cut: PowerCut) -> Battery<'a, [u8; 256]>
+pub fn battery_pages<'a>(
+    memory: &'a mut [[u8; 256]],
+    cut: Option<PowerCut>,
+) -> Battery<'a, [u8; 256]>
     ensures pages { pages_model (held result) ≡ record { pages = map (as_bytes 256) (take most_pages memory.old); powered = true } }
     ensures rule { held result ≡ made memory.old (length memory.old) cut }
     ensures once { LostOnce cut }

@@ -11,7 +11,7 @@ use device::{LogFault, LogStore};
 const MOST: usize = 4_294_967_294;
 
 // The log starts empty, whatever the memory holds.
-pub fn battery_log<'a>(memory: &'a mut [[u8; 60]], cut: PowerCut) -> Battery<'a, [u8; 60]>
+pub fn battery_log<'a>(memory: &'a mut [[u8; 60]], cut: Option<PowerCut>) -> Battery<'a, [u8; 60]>
     ensures log { log_model (held result) ≡ record { capacity = min (length memory.old) most_slots; slots = []; forced = 0; powered = true } }
     ensures rule { held result ≡ made memory.old 0 cut }
     ensures once { LostOnce cut }

@@ -2,7 +2,7 @@
 use crate::arguments::Layout;
 use crate::failure::Failure;
 use crate::report::print_summary;
-use battery::{PowerCut, battery_pages};
+use battery::battery_pages;
 use device::LogStore;
 use format::{Change, Slot};
 use paged_log::PagedLog;
@@ -69,7 +69,7 @@ fn dump_pages<C: Change + fmt::Display + Copy, R: Read + Drop, W: Write>(
         })?;
     let (image, rest) = bytes.as_mut_slice().as_chunks_mut::<256>();
     print_rest(out, rest.len(), "page")?;
-    let log = PagedLog::new(battery_pages(image, PowerCut::NEVER));
+    let log = PagedLog::new(battery_pages(image, None));
     for number in 1..=log.len().unwrap_or(0) {
         if let Ok(slot) = log.read(number) {
             note_slot::<C, W>(out, summary, &slot, pages)?;
