@@ -4,7 +4,7 @@ use Rattle.device.specs.declared.log_store.LogFault.TheVariants.{PowerLost}
 use Rattle.device.specs.Memory.{as_bytes}
 use Rattle.device.specs.LogStores.{LogModel, SlotAppended, LogForced, powered_on}
 use Rattle.battery.specs.Batteries.{Held, room, in_use, now_forced, cuts_now, standing, forced_on, appended, cut_back}
-use Rattle.battery.specs.BatteryStores.{rows, most_slots, log_model, BatteryForced}
+use Rattle.battery.specs.BatteryStores.{rows, most_slots, log_model}
 use Rattle.battery.specs.BatterySound.{length_rows}
 use Rattle.battery.proofs.BatteryCuts.{all_stand}
 use Rattle.battery.proofs.BatteryRows.{rows_appended, rows_cut_back}
@@ -17,24 +17,24 @@ log capacity slots forced powered = record { capacity = capacity; slots = slots;
 log_is : {c c' : ℕ} {s s' : List (List ℕ)} {f f' : ℕ} {p p' : Bool} → c ≡ c' → s ≡ s' → f ≡ f' → p ≡ p' → log c s f p ≡ log c' s' f' p'
 log_is ec es ef ep = cc
 
-pub slot_appended : (before after : Held (List ℕ)) (x : List ℕ) → as_bytes 60 x ≡ x → before.powered ≡ true
-    → in_use most_slots before < room most_slots before → after ≡ appended most_slots x before
+pub slot_appended : (before after : Held (List ℕ) most_slots) (x : List ℕ) → as_bytes 60 x ≡ x → before.powered ≡ true
+    → in_use before < room before → after ≡ appended x before
     → SlotAppended (log_model before) x (Ok tt) (log_model after)
 slot_appended before after x is on fits did =
-    let e = length_rows 60 most_slots before in
-    let k = in_use most_slots before in
-    let same : min (length (set before.cells k x)) most_slots ≡ room most_slots before = simp length-set refl in
-    let count : min (now_forced most_slots before) (min (k + 1) (min (length (set before.cells k x)) most_slots)) ≡ now_forced most_slots before = simp length-set (omega arith) in
-    SlotAppended.done on (omega arith) (now_forced most_slots before) (omega arith) (omega arith) refl
-    (ap log_model did ∙ log_is same (rows_appended 60 most_slots before x is fits) count on)
+    let e = length_rows 60 before in
+    let k = in_use before in
+    let same : min (length (set before.cells k x)) most_slots ≡ room before = simp length-set refl in
+    let count : min (now_forced before) (min (k + 1) (min (length (set before.cells k x)) most_slots)) ≡ now_forced before = simp length-set (omega arith) in
+    SlotAppended.done on (omega arith) (now_forced before) (omega arith) (omega arith) refl
+    (ap log_model did ∙ log_is same (rows_appended 60 before x is fits) count on)
 
-module _ (before after : Held (List ℕ)) (on : before.powered ≡ true) (did : after ≡ forced_on most_slots before) where
+module _ (before after : Held (List ℕ) most_slots) (on : before.powered ≡ true) (did : after ≡ forced_on before) where
   -- how many of the new slots stand
   stand : ℕ
-  stand = standing before.cut (in_use most_slots before - now_forced most_slots before)
+  stand = standing before.cut (in_use before - now_forced before)
 
   abbrev left : ℕ → Bool → LogModel
-  left new lost = log (room most_slots before) (rows 60 most_slots before) (min (now_forced most_slots before + new) (in_use most_slots before)) (cond lost false before.powered)
+  left new lost = log (room before) (rows 60 before) (min (now_forced before + new) (in_use before)) (cond lost false before.powered)
 
   by_cut : (b : Bool) → cuts_now before.cut ≡ b → log_model after ≡ left stand b
   unfolding stand
@@ -49,23 +49,17 @@ module _ (before after : Held (List ℕ)) (on : before.powered ≡ true) (did : 
   pub force_done : after.powered ≡ true → LogForced (log_model before) (Ok tt) (log_model after)
   unfolding stand
   force_done kept =
-      let e = length_rows 60 most_slots before in
-      let none_lost = all_stand before.cut (in_use most_slots before - now_forced most_slots before) (no_cut kept) in
-      let all : min (now_forced most_slots before + stand) (in_use most_slots before) ≡ length (rows 60 most_slots before) = omega arith in
+      let e = length_rows 60 before in
+      let none_lost = all_stand before.cut (in_use before - now_forced before) (no_cut kept) in
+      let all : min (now_forced before + stand) (in_use before) ≡ length (rows 60 before) = omega arith in
       LogForced.done on refl (by_cut false (no_cut kept) ∙ log_is refl refl all on)
 
-  pub force_lost : (n : ℕ) → n ≡ in_use most_slots before → after.powered ≡ false → LogForced (log_model before) (Err (PowerLost n)) (log_model after)
+  pub force_lost : (n : ℕ) → n ≡ in_use before → after.powered ≡ false → LogForced (log_model before) (Err (PowerLost n)) (log_model after)
   force_lost n is lost =
-      let e = length_rows 60 most_slots before in
-      LogForced.lost on (min (now_forced most_slots before + stand) (in_use most_slots before)) (omega arith) (omega arith) (ap (λ k. Err (PowerLost k)) (is ∙ sym e)) (by_cut true (the_cut lost))
+      let e = length_rows 60 before in
+      LogForced.lost on (min (now_forced before + stand) (in_use before)) (omega arith) (omega arith) (ap (λ k. Err (PowerLost k)) (is ∙ sym e)) (by_cut true (the_cut lost))
 
-  pub rule_done : after.powered ≡ true → BatteryForced before (Ok tt) after
-  rule_done kept = BatteryForced.done on (no_cut kept) refl did
-
-  pub rule_lost : (n : ℕ) → n ≡ in_use most_slots before → after.powered ≡ false → BatteryForced before (Err (PowerLost n)) after
-  rule_lost n is lost = BatteryForced.lost on (the_cut lost) (ap (λ k. Err (PowerLost k)) is) did
-
-pub log_cut_back : (before after : Held (List ℕ)) → after ≡ cut_back most_slots before → log_model after ≡ powered_on (log_model before)
+pub log_cut_back : (before after : Held (List ℕ) most_slots) → after ≡ cut_back before → log_model after ≡ powered_on (log_model before)
 log_cut_back before after did =
-    let count : min (now_forced most_slots before) (min (now_forced most_slots before) (room most_slots before)) ≡ now_forced most_slots before = omega arith in
-    ap log_model did ∙ log_is refl (rows_cut_back 60 most_slots before) count refl
+    let count : min (now_forced before) (min (now_forced before) (room before)) ≡ now_forced before = omega arith in
+    ap log_model did ∙ log_is refl (rows_cut_back 60 before) count refl

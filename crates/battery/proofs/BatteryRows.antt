@@ -19,29 +19,29 @@ rows_set n most used cells at x e =
     ∙ map_take_set (as_bytes n) (min used (min (length cells) most)) cells at x
     ∙ ap (λ y. set (map (as_bytes n) (take (min used (min (length cells) most)) cells)) at y) e
 
-pub row_at : (n most : ℕ) (h : Held (List ℕ)) (at : ℕ) (x : List ℕ) → as_bytes n x ≡ x → at < in_use most h → x ≡ get_or h.cells at x
-    → x ≡ get_or (rows n most h) at []
-row_at n most h at x e inside is =
-    let k = in_use most h in
+pub row_at : {most : ℕ} (n : ℕ) (h : Held (List ℕ) most) (at : ℕ) (x : List ℕ) → as_bytes n x ≡ x → at < in_use h → x ≡ get_or h.cells at x
+    → x ≡ get_or (rows n h) at []
+row_at n h at x e inside is =
+    let k = in_use h in
     let cut : at < length (take k h.cells) = simp length-take (omega arith) in
     sym (get_or-map (as_bytes n) (take k h.cells) at x [] cut
     ∙ ap (as_bytes n) (get_or-take k h.cells at x inside ∙ sym is)
     ∙ e)
 
-pub rows_appended : (n most : ℕ) (h : Held (List ℕ)) (x : List ℕ) → as_bytes n x ≡ x → in_use most h < room most h
-    → rows n most (appended most x h) ≡ rows n most h ++ x ∷ []
-rows_appended n most h x e fits =
-    let k = in_use most h in
+pub rows_appended : {most : ℕ} (n : ℕ) (h : Held (List ℕ) most) (x : List ℕ) → as_bytes n x ≡ x → in_use h < room h
+    → rows n (appended x h) ≡ rows n h ++ x ∷ []
+rows_appended {most = most} n h x e fits =
+    let k = in_use h in
     let count : min (k + 1) (min (length (set h.cells k x)) most) ≡ k + 1 = simp length-set (omega arith) in
     ap (λ m. map (as_bytes n) (take m (set h.cells k x))) count
     ∙ ap (map (as_bytes n)) (take_more_set h.cells k x (omega arith))
     ∙ map_push (as_bytes n) (take k h.cells) x
     ∙ ap (λ y. map (as_bytes n) (take k h.cells) ++ y ∷ []) e
 
-pub rows_cut_back : (n most : ℕ) (h : Held (List ℕ)) → rows n most (cut_back most h) ≡ take (now_forced most h) (rows n most h)
-rows_cut_back n most h =
-    let k = in_use most h in let f = now_forced most h in
-    let count : min f (room most h) ≡ f = omega arith in
+pub rows_cut_back : {most : ℕ} (n : ℕ) (h : Held (List ℕ) most) → rows n (cut_back h) ≡ take (now_forced h) (rows n h)
+rows_cut_back n h =
+    let k = in_use h in let f = now_forced h in
+    let count : min f (room h) ≡ f = omega arith in
     ap (λ m. map (as_bytes n) (take m h.cells)) count
     ∙ ap (map (as_bytes n)) (sym (take-take f k h.cells (omega arith)))
     ∙ sym (take-map (as_bytes n) f (take k h.cells))

@@ -21,7 +21,7 @@ went true p on e = refl
 went false p on e = sym e ∙ on
 
 -- the model that a write leaves, by whether the old page stays and whether power is lost
-abbrev left : Held (List ℕ) → ℕ → List ℕ → Bool → Bool → PageModel
+abbrev left : Held (List ℕ) most_pages → ℕ → List ℕ → Bool → Bool → PageModel
 left h at x old lost = pages_model (record {
   cells = cond old h.cells (set h.cells at x);
   used = h.used;
@@ -30,15 +30,15 @@ left h at x old lost = pages_model (record {
   cut = next_cut h.cut;
 })
 
-left_new : (h : Held (List ℕ)) (at : ℕ) (x : List ℕ) (lost : Bool) → as_bytes 256 x ≡ x
+left_new : (h : Held (List ℕ) most_pages) (at : ℕ) (x : List ℕ) (lost : Bool) → as_bytes 256 x ≡ x
     → left h at x false lost ≡ record { pages = set (pages_model h).pages at x; powered = cond lost false h.powered }
 left_new h at x lost is =
     ap (λ l. let m : PageModel = record { pages = l; powered = cond lost false h.powered } in m) (rows_set 256 most_pages h.used h.cells at x is)
 
-module _ (before after : Held (List ℕ)) (at : ℕ) (x : List ℕ) (is : as_bytes 256 x ≡ x) (on : before.powered ≡ true)
-    (inside : at < in_use most_pages before) (wrote : after ≡ written at x before) where
+module _ (before after : Held (List ℕ) most_pages) (at : ℕ) (x : List ℕ) (is : as_bytes 256 x ≡ x) (on : before.powered ≡ true)
+    (inside : at < in_use before) (wrote : after ≡ written at x before) where
   inside_model : at < length (pages_model before).pages
-  inside_model = let e = length_rows 256 most_pages before in omega arith
+  inside_model = let e = length_rows 256 before in omega arith
 
   by_cut : (b : Bool) → cuts_now before.cut ≡ b → pages_model after ≡ left before at x (eqb (standing before.cut 1) 0) b
   by_cut b e = ap pages_model wrote ∙ ap (left before at x (eqb (standing before.cut 1) 0)) e
@@ -60,24 +60,18 @@ module _ (before after : Held (List ℕ)) (at : ℕ) (x : List ℕ) (is : as_byt
   pub page_lost : after.powered ≡ false → PageWritten (pages_model before) at x (Err (PowerLost at)) (pages_model after)
   page_lost lost = lost_by (eqb (standing before.cut 1) 0) (by_cut true (the_cut lost))
 
-  pub rule_done : after.powered ≡ true → BatteryWrote before at x (Ok tt) after
-  rule_done kept = BatteryWrote.done on inside (no_cut kept) refl wrote
-
-  pub rule_lost : after.powered ≡ false → BatteryWrote before at x (Err (PowerLost at)) after
-  rule_lost lost = BatteryWrote.lost on inside (the_cut lost) refl wrote
-
 -- With power that is never lost the page is written if it is there, and the owner has the memory back with the page in it, or as it was.
-pub owner_told : (memory : List (List ℕ)) (at : ℕ) (x : List ℕ) (r : Result (Unit {0}) PageFault) (before after : Held (List ℕ))
+pub owner_told : (memory : List (List ℕ)) (at : ℕ) (x : List ℕ) (r : Result (Unit {0}) PageFault) (before after : Held (List ℕ) most_pages)
     → before ≡ made memory (length memory) (None) → BatteryWrote before at x r after
     → r ≡ cond (ltb at (min (length memory) most_pages)) (Ok tt) (Err Outside)
 owner_told memory at x r before after m (BatteryWrote.no_power off e same) = absurd (true≢false (sym (ap (λ h. h.powered) m) ∙ off))
 owner_told memory at x r before after m (BatteryWrote.outside on out e same) =
-    let size = ap (in_use most_pages) m in let no : ltb at (min (length memory) most_pages) ≡ false = le-ltb _ _ (omega arith) in cc
+    let size = ap (in_use) m in let no : ltb at (min (length memory) most_pages) ≡ false = le-ltb _ _ (omega arith) in cc
 owner_told memory at x r before after m (BatteryWrote.done on inside no_cut e wrote) =
-    let size = ap (in_use most_pages) m in let yes : ltb at (min (length memory) most_pages) ≡ true = lt-ltb _ _ (omega arith) in cc
+    let size = ap (in_use) m in let yes : ltb at (min (length memory) most_pages) ≡ true = lt-ltb _ _ (omega arith) in cc
 owner_told memory at x r before after m (BatteryWrote.lost on inside cut e wrote) = absurd (true≢false (sym cut ∙ ap (λ h. cuts_now h.cut) m))
 
-pub owner_has : (memory : List (List ℕ)) (at : ℕ) (x : List ℕ) (r : Result (Unit {0}) PageFault) (before after : Held (List ℕ)) {ys : List (List ℕ)}
+pub owner_has : (memory : List (List ℕ)) (at : ℕ) (x : List ℕ) (r : Result (Unit {0}) PageFault) (before after : Held (List ℕ) most_pages) {ys : List (List ℕ)}
     → before ≡ made memory (length memory) (None) → BatteryWrote before at x r after → ys ≡ after.cells
     → MatchResult r (λ _. ys ≡ set memory at x) (λ _. ys ≡ memory)
 owner_has memory at x r before after m (BatteryWrote.no_power off e same) back = absurd (true≢false (sym (ap (λ h. h.powered) m) ∙ off))

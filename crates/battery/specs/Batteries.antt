@@ -3,30 +3,31 @@ use Rattle.std.specs.Prelude.{◌≡◌, ℕ, zero, suc, ◌+◌, ◌-◌, min, 
 use Rattle.battery.specs.declared.PowerCut.{PowerCut}
 use Rattle.battery.specs.declared.Battery.{Battery}
 
--- the cells as lent; how many of them are in use, and how many of those stand when power is lost; the cut to come
-pub record Held (E : Type 0) : Type 0 where
+-- of a store of `most` elements at most: the cells as lent; how many of them are in use, and how many of those stand when
+-- power is lost; the cut to come
+pub record Held (E : Type 0) (most : ℕ) : Type 0 where
   pub cells : List E
   pub used : ℕ
   pub forced : ℕ
   pub powered : Bool
   pub cut : Option PowerCut
 
-abbrev pub held : {E : Type 0} → Battery E → Held E
+abbrev pub held : {E : Type 0} {most : ℕ} → Battery E most → Held E most
 held b = record { cells = b.cells.now; used = b.used; forced = b.forced; powered = b.powered; cut = b.cut }
 
 -- at the making there is power, and what is in use stands
-abbrev pub made : {E : Type 0} → List E → ℕ → Option PowerCut → Held E
+abbrev pub made : {E : Type 0} {most : ℕ} → List E → ℕ → Option PowerCut → Held E most
 made cells used cut = record { cells = cells; used = used; forced = used; powered = true; cut = cut }
 
--- how many elements there may be, where the numbers of a store end before `most`
-abbrev pub room : {E : Type 0} → ℕ → Held E → ℕ
-room most h = min (length h.cells) most
+-- how many elements there may be
+abbrev pub room : {E : Type 0} {most : ℕ} → Held E most → ℕ
+room {most = most} h = min (length h.cells) most
 
-abbrev pub in_use : {E : Type 0} → ℕ → Held E → ℕ
-in_use most h = min h.used (room most h)
+abbrev pub in_use : {E : Type 0} {most : ℕ} → Held E most → ℕ
+in_use h = min h.used (room h)
 
-abbrev pub now_forced : {E : Type 0} → ℕ → Held E → ℕ
-now_forced most h = min h.forced (in_use most h)
+abbrev pub now_forced : {E : Type 0} {most : ℕ} → Held E most → ℕ
+now_forced h = min h.forced (in_use h)
 
 -- power is lost in the write or force of this number, counted from 1, and at 0 in none
 abbrev pub cut_at : ℕ → ℕ → Option PowerCut
@@ -67,7 +68,7 @@ standing None new = new
 standing (Some c) new = cond (c.after == 0) (min new c.stands) new
 
 -- a write or force is counted, and power is lost in it if it is the one
-abbrev pub counted : {E : Type 0} → Held E → List E → ℕ → Held E
+abbrev pub counted : {E : Type 0} {most : ℕ} → Held E most → List E → ℕ → Held E most
 counted h cells forced = record {
   cells = cells;
   used = h.used;
@@ -77,27 +78,27 @@ counted h cells forced = record {
 }
 
 -- a write brings one element
-abbrev pub written : {E : Type 0} → ℕ → E → Held E → Held E
+abbrev pub written : {E : Type 0} {most : ℕ} → ℕ → E → Held E most → Held E most
 written at element h = counted h (cond (standing h.cut 1 == 0) h.cells (slice_set h.cells at element)) h.forced
 
 -- a force brings the elements in use that are not forced yet
-abbrev pub forced_on : {E : Type 0} → ℕ → Held E → Held E
-forced_on most h = counted h h.cells (now_forced most h + standing h.cut (in_use most h - now_forced most h))
+abbrev pub forced_on : {E : Type 0} {most : ℕ} → Held E most → Held E most
+forced_on h = counted h h.cells (now_forced h + standing h.cut (in_use h - now_forced h))
 
 -- an append is not counted, and forces nothing
-abbrev pub appended : {E : Type 0} → ℕ → E → Held E → Held E
-appended most element h = record {
-  cells = slice_set h.cells (in_use most h) element;
-  used = in_use most h + 1;
-  forced = now_forced most h;
+abbrev pub appended : {E : Type 0} {most : ℕ} → E → Held E most → Held E most
+appended element h = record {
+  cells = slice_set h.cells (in_use h) element;
+  used = in_use h + 1;
+  forced = now_forced h;
   powered = h.powered;
   cut = h.cut;
 }
 
 -- power comes back; the cut to come stays
-abbrev pub on_again : {E : Type 0} → Held E → Held E
+abbrev pub on_again : {E : Type 0} {most : ℕ} → Held E most → Held E most
 on_again h = record { cells = h.cells; used = h.used; forced = h.forced; powered = true; cut = h.cut }
 
 -- and only the forced elements are in use
-abbrev pub cut_back : {E : Type 0} → ℕ → Held E → Held E
-cut_back most h = record { cells = h.cells; used = now_forced most h; forced = now_forced most h; powered = true; cut = h.cut }
+abbrev pub cut_back : {E : Type 0} {most : ℕ} → Held E most → Held E most
+cut_back h = record { cells = h.cells; used = now_forced h; forced = now_forced h; powered = true; cut = h.cut }

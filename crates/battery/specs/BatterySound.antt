@@ -17,19 +17,19 @@ pub as_many_rows : (n : ℕ) (xs : List (List ℕ)) → length (map (as_bytes n)
 as_many_rows n [] = refl
 as_many_rows n (x ∷ xs) = ap suc (as_many_rows n xs)
 
-pub length_rows : (n most : ℕ) (h : Held (List ℕ)) → length (rows n most h) ≡ in_use most h
-length_rows n most h = let m = as_many_rows n (take (in_use most h) h.cells) in let t = length-take (in_use most h) h.cells in omega arith
+pub length_rows : {most : ℕ} (n : ℕ) (h : Held (List ℕ) most) → length (rows n h) ≡ in_use h
+length_rows n h = let m = as_many_rows n (take (in_use h) h.cells) in let t = length-take (in_use h) h.cells in omega arith
 
-pub sound_pages : (h : Held (List ℕ)) → SoundPages (pages_model h)
+pub sound_pages : (h : Held (List ℕ) most_pages) → SoundPages (pages_model h)
 sound_pages h = record {
-  few = let e = length_rows 256 most_pages h in omega arith;
-  each = each_row 256 (take (in_use most_pages h) h.cells);
+  few = let e = length_rows 256 h in omega arith;
+  each = each_row 256 (take (in_use h) h.cells);
 }
 
-pub sound_log : (h : Held (List ℕ)) → SoundLog (log_model h)
-sound_log h = let e = length_rows 60 most_slots h in record {
+pub sound_log : (h : Held (List ℕ) most_slots) → SoundLog (log_model h)
+sound_log h = let e = length_rows 60 h in record {
   held = omega arith;
   room = omega arith;
   numbers = omega arith;
-  each = each_row 60 (take (in_use most_slots h) h.cells);
+  each = each_row 60 (take (in_use h) h.cells);
 }

@@ -17,33 +17,33 @@ abbrev pub most_slots : ℕ
 most_slots = 4294967294
 
 -- the rows of n bytes in use
-abbrev pub rows : ℕ → ℕ → Held (List ℕ) → List (List ℕ)
-rows n most h = map (as_bytes n) (take (in_use most h) h.cells)
+abbrev pub rows : {most : ℕ} → ℕ → Held (List ℕ) most → List (List ℕ)
+rows n h = map (as_bytes n) (take (in_use h) h.cells)
 
-abbrev pub pages_model : Held (List ℕ) → PageModel
-pages_model h = record { pages = rows 256 most_pages h; powered = h.powered }
+abbrev pub pages_model : Held (List ℕ) most_pages → PageModel
+pages_model h = record { pages = rows 256 h; powered = h.powered }
 
-abbrev pub log_model : Held (List ℕ) → LogModel
-log_model h = record { capacity = room most_slots h; slots = rows 60 most_slots h; forced = now_forced most_slots h; powered = h.powered }
+abbrev pub log_model : Held (List ℕ) most_slots → LogModel
+log_model h = record { capacity = room h; slots = rows 60 h; forced = now_forced h; powered = h.powered }
 
 -- A write loses power if it is the one that was set, with the page old or new as set, and else never.
 -- One that finds no power or no such page alters nothing and is not counted.
-pub data BatteryWrote (before : Held (List ℕ)) (at : ℕ) (bytes : List ℕ) (r : Result (Unit {0}) PageFault) (after : Held (List ℕ)) : Type 0 where
+pub data BatteryWrote (before : Held (List ℕ) most_pages) (at : ℕ) (bytes : List ℕ) (r : Result (Unit {0}) PageFault) (after : Held (List ℕ) most_pages) : Type 0 where
   no_power : before.powered ≡ false → r ≡ Err (page.PowerLost at) → after ≡ before → BatteryWrote before at bytes r after
-  outside : before.powered ≡ true → in_use most_pages before ≤ at → r ≡ Err page.Outside → after ≡ before → BatteryWrote before at bytes r after
-  done : before.powered ≡ true → at < in_use most_pages before → cuts_now before.cut ≡ false
+  outside : before.powered ≡ true → in_use before ≤ at → r ≡ Err page.Outside → after ≡ before → BatteryWrote before at bytes r after
+  done : before.powered ≡ true → at < in_use before → cuts_now before.cut ≡ false
       → r ≡ Ok tt → after ≡ written at bytes before → BatteryWrote before at bytes r after
-  lost : before.powered ≡ true → at < in_use most_pages before → cuts_now before.cut ≡ true
+  lost : before.powered ≡ true → at < in_use before → cuts_now before.cut ≡ true
       → r ≡ Err (page.PowerLost at) → after ≡ written at bytes before → BatteryWrote before at bytes r after
 
 -- an append never loses power and forces nothing
-pub data BatteryAppended (before : Held (List ℕ)) (bytes : List ℕ) (r : Result (Unit {0}) LogFault) (after : Held (List ℕ)) : Type 0 where
+pub data BatteryAppended (before : Held (List ℕ) most_slots) (bytes : List ℕ) (r : Result (Unit {0}) LogFault) (after : Held (List ℕ) most_slots) : Type 0 where
   refused : is_ok r ≡ false → after ≡ before → BatteryAppended before bytes r after
-  done : r ≡ Ok tt → after ≡ appended most_slots bytes before → BatteryAppended before bytes r after
+  done : r ≡ Ok tt → after ≡ appended bytes before → BatteryAppended before bytes r after
 
 -- a force loses power if it is the one that was set, with as many new slots forced as set, and else never
-pub data BatteryForced (before : Held (List ℕ)) (r : Result (Unit {0}) LogFault) (after : Held (List ℕ)) : Type 0 where
-  no_power : before.powered ≡ false → r ≡ Err (slot.PowerLost (in_use most_slots before)) → after ≡ before → BatteryForced before r after
-  done : before.powered ≡ true → cuts_now before.cut ≡ false → r ≡ Ok tt → after ≡ forced_on most_slots before → BatteryForced before r after
-  lost : before.powered ≡ true → cuts_now before.cut ≡ true → r ≡ Err (slot.PowerLost (in_use most_slots before))
-      → after ≡ forced_on most_slots before → BatteryForced before r after
+pub data BatteryForced (before : Held (List ℕ) most_slots) (r : Result (Unit {0}) LogFault) (after : Held (List ℕ) most_slots) : Type 0 where
+  no_power : before.powered ≡ false → r ≡ Err (slot.PowerLost (in_use before)) → after ≡ before → BatteryForced before r after
+  done : before.powered ≡ true → cuts_now before.cut ≡ false → r ≡ Ok tt → after ≡ forced_on before → BatteryForced before r after
+  lost : before.powered ≡ true → cuts_now before.cut ≡ true → r ≡ Err (slot.PowerLost (in_use before))
+      → after ≡ forced_on before → BatteryForced before r after

@@ -9,8 +9,8 @@ mod pages;
 mod slots;
 
 pub use owners::write_in_memory;
-pub use pages::battery_pages;
-pub use slots::battery_log;
+pub use pages::{BatteryPages, battery_pages};
+pub use slots::{BatteryLog, battery_log};
 
 // Power is lost after so many writes (pages) or forces (log) with power, in the next one; of the new elements that
 // this one brings so many stand: all, if it brings fewer.
@@ -21,8 +21,9 @@ pub struct PowerCut {
 }
 
 // Of the cells so many are in use, and of those so many stand when power is lost. Of a page store all are.
+// There are `MOST` elements at most, where the numbers of a store end.
 #[derive(Drop)]
-pub struct Battery<'a, E> {
+pub struct Battery<'a, E, const MOST: usize> {
     cells: &'a mut [E],
     used: usize,
     forced: usize,
@@ -42,9 +43,9 @@ impl PowerCut {
     }
 }
 
-impl<'a, E> Battery<'a, E> {
+impl<'a, E, const MOST: usize> Battery<'a, E, MOST> {
     // What is in use at the making stands.
-    fn new(cells: &'a mut [E], used: usize, cut: Option<PowerCut>) -> Battery<'a, E>
+    fn new(cells: &'a mut [E], used: usize, cut: Option<PowerCut>) -> Battery<'a, E, MOST>
         ensures held { held result ≡ made cells.old used cut }
         ensures lent { result.cells.ghost_name ≡ cells.entry.ghost_name }
     {
@@ -59,24 +60,23 @@ impl<'a, E> Battery<'a, E> {
 }
 
 // No operation looks at more than the element that it touches.
-// A store whose numbers end says with `most` how many elements it may have.
-impl<E: Copy> Battery<'_, E> {
-    fn room(&self, most: usize) -> usize
-        ensures { result ≡ room most (held self.now) }
+impl<E: Copy, const MOST: usize> Battery<'_, E, MOST> {
+    fn room(&self) -> usize
+        ensures { result ≡ room (held self.now) }
     {
-        self.cells.len().min(most)
+        self.cells.len().min(MOST)
     }
 
-    fn in_use(&self, most: usize) -> usize
-        ensures { result ≡ in_use most (held self.now) }
+    fn in_use(&self) -> usize
+        ensures { result ≡ in_use (held self.now) }
     {
-        self.used.min(self.room(most))
+        self.used.min(self.room())
     }
 
-    fn now_forced(&self, most: usize) -> usize
-        ensures { result ≡ now_forced most (held self.now) }
+    fn now_forced(&self) -> usize
+        ensures { result ≡ now_forced (held self.now) }
     {
-        self.forced.min(self.in_use(most))
+        self.forced.min(self.in_use())
     }
 
     fn read_one(&self, place: usize) -> E
@@ -97,32 +97,32 @@ impl<E: Copy> Battery<'_, E> {
         }
     }
 
-    fn append_one(&mut self, most: usize, element: &E)
-        requires { in_use most (held self.old) < room most (held self.old) }
-        ensures held { held self.new ≡ appended most element.now (held self.old) }
+    fn append_one(&mut self, element: &E)
+        requires { in_use (held self.old) < room (held self.old) }
+        ensures held { held self.new ≡ appended element.now (held self.old) }
         ensures lent { self.new.cells.ghost_name ≡ self.old.cells.ghost_name }
     {
-        let place = self.in_use(most);
-        self.forced = self.now_forced(most);
+        let place = self.in_use();
+        self.forced = self.now_forced();
         self.cells[place] = *element;
         self.used = place + 1;
     }
 
-    fn force_used(&mut self, most: usize)
-        ensures held { held self.new ≡ forced_on most (held self.old) }
+    fn force_used(&mut self)
+        ensures held { held self.new ≡ forced_on (held self.old) }
         ensures lent { self.new.cells.ghost_name ≡ self.old.cells.ghost_name }
     {
-        let used = self.in_use(most);
-        let forced = self.now_forced(most);
+        let used = self.in_use();
+        let forced = self.now_forced();
         self.forced = forced + self.count(used - forced);
     }
 
     // Power comes back, and only the forced elements are in use.
-    fn cut_back(&mut self, most: usize)
-        ensures held { held self.new ≡ cut_back most (held self.old) }
+    fn cut_back(&mut self)
+        ensures held { held self.new ≡ cut_back (held self.old) }
         ensures lent { self.new.cells.ghost_name ≡ self.old.cells.ghost_name }
     {
-        let forced = self.now_forced(most);
+        let forced = self.now_forced();
         self.used = forced;
         self.forced = forced;
         self.turn_on();

@@ -9,13 +9,13 @@ ghost use Rattle.battery.specs.BatterySound.{sound_pages};
 use crate::{Battery, PowerCut};
 use device::{PageFault, PageStore};
 
-const MOST: usize = 65_536;
+// Pages are numbered below 65,536.
+const MOST_PAGES: usize = 65_536;
+
+pub type BatteryPages<'a> = Battery<'a, [u8; 256], MOST_PAGES>;
 
 // The pages are as found in the memory, of which there may be 65,536.
-pub fn battery_pages<'a>(
-    memory: &'a mut [[u8; 256]],
-    cut: Option<PowerCut>,
-) -> Battery<'a, [u8; 256]>
+pub fn battery_pages<'a>(memory: &'a mut [[u8; 256]], cut: Option<PowerCut>) -> BatteryPages<'a>
     ensures pages { pages_model (held result) ≡ record { pages = map (as_bytes 256) (take most_pages memory.old); powered = true } }
     ensures rule { held result ≡ made memory.old (length memory.old) cut }
     ensures once { LostOnce cut }
@@ -25,7 +25,7 @@ pub fn battery_pages<'a>(
     Battery::new(memory, used, cut)
 }
 
-impl PageStore for Battery<'_, [u8; 256]> {
+impl PageStore for BatteryPages<'_> {
     ghost model = { λ s. pages_model (held s) };
 
     ghost sound = { λ s. sound_pages (held s) };
@@ -33,7 +33,7 @@ impl PageStore for Battery<'_, [u8; 256]> {
     fn size(&self) -> u32
         ensures { result ≡ length (pages_model (held self.now)).pages }
     {
-        self.in_use(MOST) as u32
+        self.in_use() as u32
     }
 
     fn is_powered(&self) -> bool
@@ -49,7 +49,7 @@ impl PageStore for Battery<'_, [u8; 256]> {
             return Err(PageFault::PowerLost(page));
         }
         let place = page as usize;
-        if place >= self.in_use(MOST) {
+        if place >= self.in_use() {
             return Err(PageFault::Outside);
         }
         Ok(self.read_one(place))
@@ -65,7 +65,7 @@ impl PageStore for Battery<'_, [u8; 256]> {
             return Err(lost);
         }
         let place = page as usize;
-        if place >= self.in_use(MOST) {
+        if place >= self.in_use() {
             return Err(PageFault::Outside);
         }
         self.write_one(place, bytes);

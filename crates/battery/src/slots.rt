@@ -8,10 +8,13 @@ ghost use Rattle.battery.specs.BatterySound.{sound_log};
 use crate::{Battery, PowerCut};
 use device::{LogFault, LogStore};
 
-const MOST: usize = 4_294_967_294;
+// So that the number after the last slot fits four bytes.
+const MOST_SLOTS: usize = 4_294_967_294;
+
+pub type BatteryLog<'a> = Battery<'a, [u8; 60], MOST_SLOTS>;
 
 // The log starts empty, whatever the memory holds.
-pub fn battery_log<'a>(memory: &'a mut [[u8; 60]], cut: Option<PowerCut>) -> Battery<'a, [u8; 60]>
+pub fn battery_log<'a>(memory: &'a mut [[u8; 60]], cut: Option<PowerCut>) -> BatteryLog<'a>
     ensures log { log_model (held result) ≡ record { capacity = min (length memory.old) most_slots; slots = []; forced = 0; powered = true } }
     ensures rule { held result ≡ made memory.old 0 cut }
     ensures once { LostOnce cut }
@@ -20,7 +23,7 @@ pub fn battery_log<'a>(memory: &'a mut [[u8; 60]], cut: Option<PowerCut>) -> Bat
     Battery::new(memory, 0, cut)
 }
 
-impl LogStore for Battery<'_, [u8; 60]> {
+impl LogStore for BatteryLog<'_> {
     ghost model = { λ s. log_model (held s) };
 
     ghost sound = { λ s. sound_log (held s) };
@@ -28,7 +31,7 @@ impl LogStore for Battery<'_, [u8; 60]> {
     fn capacity(&self) -> u32
         ensures { result ≡ (log_model (held self.now)).capacity }
     {
-        self.room(MOST) as u32
+        self.room() as u32
     }
 
     fn is_powered(&self) -> bool
@@ -43,7 +46,7 @@ impl LogStore for Battery<'_, [u8; 60]> {
         if !self.powered {
             return Err(LogFault::PowerLost(0));
         }
-        Ok(self.in_use(MOST) as u32)
+        Ok(self.in_use() as u32)
     }
 
     fn read(&self, slot: u32) -> Result<[u8; 60], LogFault>
@@ -56,7 +59,7 @@ impl LogStore for Battery<'_, [u8; 60]> {
             return Err(LogFault::Outside);
         }
         let place = slot as usize - 1;
-        if place >= self.in_use(MOST) {
+        if place >= self.in_use() {
             return Err(LogFault::Outside);
         }
         Ok(self.read_one(place))
@@ -67,14 +70,14 @@ impl LogStore for Battery<'_, [u8; 60]> {
         ensures rule { BatteryAppended (held self.old) bytes.now result (held self.new) }
         ensures lent { self.new.cells.ghost_name ≡ self.old.cells.ghost_name }
     {
-        let length = self.in_use(MOST);
+        let length = self.in_use();
         if !self.powered {
             return Err(LogFault::PowerLost(length as u32 + 1));
         }
-        if length >= self.room(MOST) {
+        if length >= self.room() {
             return Err(LogFault::Full);
         }
-        self.append_one(MOST, bytes);
+        self.append_one(bytes);
         Ok(())
     }
 
@@ -83,11 +86,11 @@ impl LogStore for Battery<'_, [u8; 60]> {
         ensures rule { BatteryForced (held self.old) result (held self.new) }
         ensures lent { self.new.cells.ghost_name ≡ self.old.cells.ghost_name }
     {
-        let lost = LogFault::PowerLost(self.in_use(MOST) as u32);
+        let lost = LogFault::PowerLost(self.in_use() as u32);
         if !self.powered {
             return Err(lost);
         }
-        self.force_used(MOST);
+        self.force_used();
         if !self.powered {
             return Err(lost);
         }
@@ -96,9 +99,9 @@ impl LogStore for Battery<'_, [u8; 60]> {
 
     fn power_on(&mut self)
         ensures outcome { log_model (held self.new) ≡ powered_on (log_model (held self.old)) }
-        ensures rule { held self.new ≡ cut_back most_slots (held self.old) }
+        ensures rule { held self.new ≡ cut_back (held self.old) }
         ensures lent { self.new.cells.ghost_name ≡ self.old.cells.ghost_name }
     {
-        self.cut_back(MOST);
+        self.cut_back();
     }
 }
