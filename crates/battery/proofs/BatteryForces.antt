@@ -1,5 +1,7 @@
 -- Slots appended to battery memory and forced there: what that makes of the model, and that power is lost where it was set.
-use Rattle.std.proofs.Common.{◌≡◌, ℕ, ◌+◌, ◌-◌, ◌<◌, min, Bool, true, false, cond, List, length, set, Ok, Err, sym, refl, ap, ◌∙◌, arith, length-set}
+use Rattle.std.proofs.Common.{◌≡◌, ℕ, ◌+◌, ◌-◌, ◌<◌, min, Bool, true, false, cond, List, length, set, Ok, Err, Result, inl, inr, sym, refl, ap, ◌∙◌, arith, length-set}
+use Rattle.std.proofs.lemmas.Bool.{cases_Bool}
+use Rattle.device.specs.declared.log_store.LogFault.{LogFault}
 use Rattle.device.specs.declared.log_store.LogFault.TheVariants.{PowerLost}
 use Rattle.device.specs.Memory.{as_bytes}
 use Rattle.device.specs.LogStores.{LogModel, SlotAppended, LogForced, powered_on}
@@ -8,7 +10,6 @@ use Rattle.battery.specs.BatteryStores.{rows, most_slots, log_model}
 use Rattle.battery.specs.BatterySound.{length_rows}
 use Rattle.battery.proofs.BatteryCuts.{all_stand}
 use Rattle.battery.proofs.BatteryRows.{rows_appended, rows_cut_back}
-use Rattle.battery.proofs.BatteryWrites.{stayed, went}
 
 abbrev log : ℕ → List (List ℕ) → ℕ → Bool → LogModel
 log capacity slots forced powered = record { capacity = capacity; slots = slots; forced = forced; powered = powered }
@@ -40,24 +41,23 @@ module _ (before after : Held (List ℕ) most_slots) (on : before.powered ≡ tr
   unfolding stand
   by_cut b e = ap log_model did ∙ ap (left stand) e
 
-  no_cut : after.powered ≡ true → cuts_now before.cut ≡ false
-  no_cut kept = stayed (cuts_now before.cut) before.powered (sym (ap (λ h. h.powered) did) ∙ kept)
+  powered_after : (b : Bool) → cuts_now before.cut ≡ b → after.powered ≡ cond b false true
+  powered_after b e = ap (λ h. h.powered) did ∙ ap (λ b. cond b false before.powered) e ∙ ap (cond b false) on
 
-  the_cut : after.powered ≡ false → cuts_now before.cut ≡ true
-  the_cut lost = went (cuts_now before.cut) before.powered on (sym (ap (λ h. h.powered) did) ∙ lost)
-
-  pub force_done : after.powered ≡ true → LogForced (log_model before) (Ok tt) (log_model after)
+  pub forced_or_lost : (n : ℕ) → n ≡ in_use before → (r : Result (Unit {0}) LogFault) → r ≡ cond after.powered (Ok tt) (Err (PowerLost n))
+      → LogForced (log_model before) r (log_model after)
   unfolding stand
-  force_done kept =
+  forced_or_lost n is r says =
       let e = length_rows 60 before in
-      let none_lost = all_stand before.cut (in_use before - now_forced before) (no_cut kept) in
-      let all : min (now_forced before + stand) (in_use before) ≡ length (rows 60 before) = omega arith in
-      LogForced.done on refl (by_cut false (no_cut kept) ∙ log_is refl refl all on)
-
-  pub force_lost : (n : ℕ) → n ≡ in_use before → after.powered ≡ false → LogForced (log_model before) (Err (PowerLost n)) (log_model after)
-  force_lost n is lost =
-      let e = length_rows 60 before in
-      LogForced.lost on (min (now_forced before + stand) (in_use before)) (omega arith) (omega arith) (ap (λ k. Err (PowerLost k)) (is ∙ sym e)) (by_cut true (the_cut lost))
+      let went : (b : Bool) → cuts_now before.cut ≡ b → r ≡ cond (cond b false true) (Ok tt) (Err (PowerLost n)) =
+      λ b cut. says ∙ ap (λ p. cond p (Ok tt) (Err (PowerLost n))) (powered_after b cut) in
+      elim (cases_Bool (cuts_now before.cut)) [
+        | inl cut ↦ LogForced.lost on (min (now_forced before + stand) (in_use before)) (omega arith) (omega arith)
+            (went true cut ∙ ap (λ k. Err (PowerLost k)) (is ∙ sym e)) (by_cut true cut)
+        | inr no_cut ↦ let none_lost = all_stand before.cut (in_use before - now_forced before) no_cut in
+            let all : min (now_forced before + stand) (in_use before) ≡ length (rows 60 before) = omega arith in
+            LogForced.done on (went false no_cut) (by_cut false no_cut ∙ log_is refl refl all on)
+      ]
 
 pub log_cut_back : (before after : Held (List ℕ) most_slots) → after ≡ cut_back before → log_model after ≡ powered_on (log_model before)
 log_cut_back before after did =

@@ -1,6 +1,6 @@
 -- A page written in battery memory: what the write makes of the model, and that power is lost where it was set.
-use Rattle.std.proofs.Common.{◌≡◌, ℕ, ◌<◌, min, Bool, true, false, cond, eqb, ltb, List, None, length, set, Ok, Err, Result, sym, refl, ap, ◌∙◌, arith, MatchResult}
-use Rattle.std.proofs.lemmas.Bool.{true≢false, lt-ltb, le-ltb}
+use Rattle.std.proofs.Common.{◌≡◌, ℕ, ◌<◌, min, Bool, true, false, cond, eqb, ltb, List, None, length, set, Ok, Err, Result, sym, refl, inl, inr, ap, ◌∙◌, arith, MatchResult}
+use Rattle.std.proofs.lemmas.Bool.{cases_Bool, true≢false, lt-ltb, le-ltb}
 use Rattle.device.specs.declared.page_store.PageFault.{PageFault}
 use Rattle.device.specs.declared.page_store.PageFault.TheVariants.{PowerLost, Outside}
 use Rattle.device.specs.Memory.{as_bytes}
@@ -10,15 +10,6 @@ use Rattle.battery.specs.BatteryStores.{most_pages, pages_model, BatteryWrote}
 use Rattle.battery.specs.BatterySound.{length_rows}
 use Rattle.battery.proofs.BatteryCuts.{all_stand}
 use Rattle.battery.proofs.BatteryRows.{rows_set}
-
--- power stayed, or was lost
-pub stayed : (b p : Bool) → cond b false p ≡ true → b ≡ false
-stayed true p e = sym e
-stayed false p e = refl
-
-pub went : (b p : Bool) → p ≡ true → cond b false p ≡ false → b ≡ true
-went true p on e = refl
-went false p on e = sym e ∙ on
 
 -- the model that a write leaves, by whether the old page stays and whether power is lost
 abbrev left : Held (List ℕ) most_pages → ℕ → List ℕ → Bool → Bool → PageModel
@@ -43,22 +34,19 @@ module _ (before after : Held (List ℕ) most_pages) (at : ℕ) (x : List ℕ) (
   by_cut : (b : Bool) → cuts_now before.cut ≡ b → pages_model after ≡ left before at x (eqb (standing before.cut 1) 0) b
   by_cut b e = ap pages_model wrote ∙ ap (left before at x (eqb (standing before.cut 1) 0)) e
 
-  no_cut : after.powered ≡ true → cuts_now before.cut ≡ false
-  no_cut kept = stayed (cuts_now before.cut) before.powered (sym (ap (λ h. h.powered) wrote) ∙ kept)
-
-  the_cut : after.powered ≡ false → cuts_now before.cut ≡ true
-  the_cut lost = went (cuts_now before.cut) before.powered on (sym (ap (λ h. h.powered) wrote) ∙ lost)
-
-  pub page_done : after.powered ≡ true → PageWritten (pages_model before) at x (Ok tt) (pages_model after)
-  page_done kept = PageWritten.done on inside_model refl
-      (by_cut false (no_cut kept) ∙ ap (λ k. left before at x (eqb k 0) false) (all_stand before.cut 1 (no_cut kept)) ∙ left_new before at x false is)
+  powered_after : (b : Bool) → cuts_now before.cut ≡ b → after.powered ≡ cond b false true
+  powered_after b e = ap (λ h. h.powered) wrote ∙ ap (λ b. cond b false before.powered) e ∙ ap (cond b false) on
 
   lost_by : (old : Bool) → pages_model after ≡ left before at x old true → PageWritten (pages_model before) at x (Err (PowerLost at)) (pages_model after)
   lost_by true e = PageWritten.lost_old on inside_model refl e
   lost_by false e = PageWritten.lost_new on inside_model refl (e ∙ left_new before at x true is)
 
-  pub page_lost : after.powered ≡ false → PageWritten (pages_model before) at x (Err (PowerLost at)) (pages_model after)
-  page_lost lost = lost_by (eqb (standing before.cut 1) 0) (by_cut true (the_cut lost))
+  pub page_wrote : (r : Result (Unit {0}) PageFault) → r ≡ cond after.powered (Ok tt) (Err (PowerLost at)) → PageWritten (pages_model before) at x r (pages_model after)
+  page_wrote r says = elim (cases_Bool (cuts_now before.cut)) [
+    | inl cut ↦ rw (says ∙ ap (λ p. cond p (Ok tt) (Err (PowerLost at))) (powered_after true cut)) (lost_by (eqb (standing before.cut 1) 0) (by_cut true cut))
+    | inr no_cut ↦ PageWritten.done on inside_model (says ∙ ap (λ p. cond p (Ok tt) (Err (PowerLost at))) (powered_after false no_cut))
+        (by_cut false no_cut ∙ ap (λ k. left before at x (eqb k 0) false) (all_stand before.cut 1 no_cut) ∙ left_new before at x false is)
+  ]
 
 -- With power that is never lost the page is written if it is there, and the owner has the memory back with the page in it, or as it was.
 pub owner_told : (memory : List (List ℕ)) (at : ℕ) (x : List ℕ) (r : Result (Unit {0}) PageFault) (before after : Held (List ℕ) most_pages)

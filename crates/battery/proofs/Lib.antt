@@ -1,4 +1,5 @@
 mod BatteryCuts
 mod BatteryForces
+mod BatteryReads
 mod BatteryRows
 mod BatteryWrites

@@ -1,7 +1,7 @@
 // Battery memory: a store in memory that its owner lends, whose power is lost at most once, where its maker sets it.
 #![tactic(auto)]
 
-ghost use Rattle.std.specs.Prelude.{◌≡◌, ◌<◌, ◌==◌, length, slice_index_or};
+ghost use Rattle.std.specs.Prelude.{◌≡◌, ◌<◌, ◌==◌, if◌then◌else◌, Ok, Err, length, take, slice_get};
 ghost use Rattle.battery.specs.Batteries.{cut_at, LostIn, held, made, room, in_use, now_forced, standing, counted, written, forced_on, appended, on_again, cut_back};
 
 mod owners;
@@ -79,12 +79,16 @@ impl<E: Copy, const MOST: usize> Battery<'_, E, MOST> {
         self.forced.min(self.in_use())
     }
 
-    fn read_one(&self, place: usize) -> E
-        requires { place < length self.now.cells.now }
-        ensures { result ≡ slice_index_or self.now.cells.now place result }
+    fn check_power<F: Copy>(&self, lost: F) -> Result<(), F>
+        ensures { result ≡ (if self.now.powered then Ok tt else Err lost) }
     {
-        let cells = &*self.cells;
-        cells[place]
+        if self.powered { Ok(()) } else { Err(lost) }
+    }
+
+    fn get(&self, place: usize) -> Option<E>
+        ensures { result ≡ slice_get (take (in_use (held self.now)) self.now.cells.now) place }
+    {
+        self.cells[..self.in_use()].get(place).copied()
     }
 
     fn write_one(&mut self, place: usize, element: &E)

@@ -45,14 +45,8 @@ impl PageStore for BatteryPages<'_> {
     fn read(&self, page: u32) -> Result<[u8; 256], PageFault>
         ensures { PageRead (pages_model (held self.now)) page result }
     {
-        if !self.powered {
-            return Err(PageFault::PowerLost(page));
-        }
-        let place = page as usize;
-        if place >= self.in_use() {
-            return Err(PageFault::Outside);
-        }
-        Ok(self.read_one(place))
+        self.check_power(PageFault::PowerLost(page))?;
+        self.get(page as usize).ok_or(PageFault::Outside)
     }
 
     fn write(&mut self, page: u32, bytes: &[u8; 256]) -> Result<(), PageFault>
@@ -61,18 +55,13 @@ impl PageStore for BatteryPages<'_> {
         ensures lent { self.new.cells.ghost_name ≡ self.old.cells.ghost_name }
     {
         let lost = PageFault::PowerLost(page);
-        if !self.powered {
-            return Err(lost);
-        }
+        self.check_power(lost)?;
         let place = page as usize;
         if place >= self.in_use() {
             return Err(PageFault::Outside);
         }
         self.write_one(place, bytes);
-        if !self.powered {
-            return Err(lost);
-        }
-        Ok(())
+        self.check_power(lost)
     }
 
     fn power_on(&mut self)

@@ -43,26 +43,16 @@ impl LogStore for BatteryLog<'_> {
     fn len(&self) -> Result<u32, LogFault>
         ensures { LengthRead (log_model (held self.now)) result }
     {
-        if !self.powered {
-            return Err(LogFault::PowerLost(0));
-        }
+        self.check_power(LogFault::PowerLost(0))?;
         Ok(self.in_use() as u32)
     }
 
     fn read(&self, slot: u32) -> Result<[u8; 60], LogFault>
         ensures { SlotRead (log_model (held self.now)) slot result }
     {
-        if !self.powered {
-            return Err(LogFault::PowerLost(slot));
-        }
-        if slot == 0 {
-            return Err(LogFault::Outside);
-        }
-        let place = slot as usize - 1;
-        if place >= self.in_use() {
-            return Err(LogFault::Outside);
-        }
-        Ok(self.read_one(place))
+        self.check_power(LogFault::PowerLost(slot))?;
+        let place = slot.checked_sub(1).ok_or(LogFault::Outside)?;
+        self.get(place as usize).ok_or(LogFault::Outside)
     }
 
     fn append(&mut self, bytes: &[u8; 60]) -> Result<(), LogFault>
@@ -71,9 +61,7 @@ impl LogStore for BatteryLog<'_> {
         ensures lent { self.new.cells.ghost_name ≡ self.old.cells.ghost_name }
     {
         let length = self.in_use();
-        if !self.powered {
-            return Err(LogFault::PowerLost(length as u32 + 1));
-        }
+        self.check_power(LogFault::PowerLost(length as u32 + 1))?;
         if length >= self.room() {
             return Err(LogFault::Full);
         }
@@ -87,14 +75,9 @@ impl LogStore for BatteryLog<'_> {
         ensures lent { self.new.cells.ghost_name ≡ self.old.cells.ghost_name }
     {
         let lost = LogFault::PowerLost(self.in_use() as u32);
-        if !self.powered {
-            return Err(lost);
-        }
+        self.check_power(lost)?;
         self.force_used();
-        if !self.powered {
-            return Err(lost);
-        }
-        Ok(())
+        self.check_power(lost)
     }
 
     fn power_on(&mut self)

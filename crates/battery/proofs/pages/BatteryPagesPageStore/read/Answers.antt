@@ -1,15 +1,16 @@
-use Rattle.std.proofs.Common.{◌≡◌, ℕ, length, get_or, Ok, ap, arith, w8, Fits, rules}
-use Rattle.battery.specs.Batteries.{held}
-use Rattle.device.specs.PageStores.{PageRead}
-use Rattle.battery.specs.BatterySound.{length_rows}
+use Rattle.std.proofs.Common.{◌≡◌, ℕ, List, Some, length, true, get_or, rules, Fits, w8}
 use Rattle.device.proofs.Rows.{as_bytes_is}
-use Rattle.battery.proofs.BatteryRows.{row_at}
+use Rattle.battery.specs.Batteries.{held}
+use Rattle.battery.specs.BatteryStores.{pages_model}
+use Rattle.battery.proofs.BatteryReads.{row_got, page_read}
 use Rattle.battery.proofs.pages.BatteryPagesPageStore.read.Goals as goal
 
 pub returns : goal.returns
 returns c =
-    let h = held c.args.self.now in let e = length_rows 256 h in let row = c.read_one.result in
-    let long : length row ≡ 256 = search rules in
-    let fits : (k : ℕ) → Fits w8 (get_or row k 0) = λ k. search rules in
-    let same = as_bytes_is 256 row long (λ k. (fits k).fits) in
-    PageRead.done c.if-not-self.false (omega arith) (ap Ok (row_at 256 h c.args.page row same (omega arith) c.read_one.ensures))
+    let h = held c.args.self.now in
+    let on : h.powered ≡ true = search rules in
+    let long : (x : List ℕ) → c.get.result ≡ Some x → length x ≡ 256 = λ x e. search rules in
+    let fits : (x : List ℕ) → c.get.result ≡ Some x → (k : ℕ) → Fits w8 (get_or x k 0) = λ x e k. search rules in
+    rw c.ok_or.ensures.value
+    (page_read (pages_model h) c.args.page c.get.result on
+    (row_got 256 h c.args.page c.get.result c.get.ensures (λ x e. as_bytes_is 256 x (long x e) (λ k. (fits x e k).fits))))

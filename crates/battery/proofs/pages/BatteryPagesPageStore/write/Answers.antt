@@ -1,15 +1,11 @@
-use Rattle.std.proofs.Common.{arith}
+use Rattle.std.proofs.Common.{◌≡◌, true, arith, rules}
 use Rattle.battery.specs.Batteries.{held}
 use Rattle.device.proofs.Rows.{as_bytes_is}
-use Rattle.battery.proofs.BatteryWrites.{page_done, page_lost}
+use Rattle.battery.proofs.BatteryWrites.{page_wrote}
 use Rattle.battery.proofs.pages.BatteryPagesPageStore.write.Goals as goal
-
-pub returns-then-not-self-2-clause-outcome : goal.returns-then-not-self-2-clause-outcome
-returns-then-not-self-2-clause-outcome c =
-    page_lost (held c.args.self.now) (held c.write_one.new.self) c.args.page c.args.bytes.now
-    (as_bytes_is 256 c.args.bytes.now c.told-bytes c.fits-bytes) c.if-not-self.false (omega arith) c.write_one.ensures.held c.if-not-self-2.true
 
 pub returns-clause-outcome : goal.returns-clause-outcome
 returns-clause-outcome c =
-    page_done (held c.args.self.now) (held c.write_one.new.self) c.args.page c.args.bytes.now
-    (as_bytes_is 256 c.args.bytes.now c.told-bytes c.fits-bytes) c.if-not-self.false (omega arith) c.write_one.ensures.held c.if-not-self-2.false
+    let on : (held c.args.self.now).powered ≡ true = search rules in
+    page_wrote (held c.args.self.now) (held c.write_one.new.self) c.args.page c.args.bytes.now
+    (as_bytes_is 256 c.args.bytes.now c.told-bytes c.fits-bytes) on (omega arith) c.write_one.ensures.held c.check_power-2.result c.check_power-2.ensures

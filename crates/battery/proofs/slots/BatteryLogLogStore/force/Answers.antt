@@ -1,8 +1,10 @@
+use Rattle.std.proofs.Common.{◌≡◌, true, rules}
 use Rattle.battery.specs.Batteries.{held}
-use Rattle.battery.proofs.BatteryForces.{force_lost}
+use Rattle.battery.proofs.BatteryForces.{forced_or_lost}
 use Rattle.battery.proofs.slots.BatteryLogLogStore.force.Goals as goal
 
-pub returns-then-not-self-2-clause-outcome : goal.returns-then-not-self-2-clause-outcome
-returns-then-not-self-2-clause-outcome c =
-    force_lost (held c.args.self.now) (held c.force_used.new.self) c.if-not-self.false c.force_used.ensures.held
-    c.in_use.result c.in_use.ensures c.if-not-self-2.true
+pub returns-clause-outcome : goal.returns-clause-outcome
+returns-clause-outcome c =
+    let on : (held c.args.self.now).powered ≡ true = search rules in
+    forced_or_lost (held c.args.self.now) (held c.force_used.new.self) on c.force_used.ensures.held
+    c.in_use.result c.in_use.ensures c.check_power-2.result c.check_power-2.ensures

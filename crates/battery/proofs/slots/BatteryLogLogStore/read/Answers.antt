@@ -1,18 +1,17 @@
-use Rattle.std.proofs.Common.{◌≡◌, ℕ, ◌-◌, ◌<◌, length, get_or, Ok, ap, sub-one, arith, w8, Fits, rules}
-use Rattle.device.specs.LogStores.{SlotRead}
-use Rattle.battery.specs.Batteries.{held, in_use}
-use Rattle.battery.specs.BatterySound.{length_rows}
+use Rattle.std.proofs.Common.{◌≡◌, ℕ, suc, List, Some, length, true, get_or, rules, arith, Fits, w8}
 use Rattle.device.proofs.Rows.{as_bytes_is}
-use Rattle.battery.proofs.BatteryRows.{row_at}
+use Rattle.battery.specs.Batteries.{held}
+use Rattle.battery.specs.BatteryStores.{log_model}
+use Rattle.battery.proofs.BatteryReads.{row_got, slot_read}
 use Rattle.battery.proofs.slots.BatteryLogLogStore.read.Goals as goal
 
 pub returns : goal.returns
 returns c =
-    let h = held c.args.self.now in let e = length_rows 60 h in let row = c.read_one.result in
-    let n = c.args.slot in
-    let inside : n - 1 < in_use h = omega arith in
-    let long : length row ≡ 60 = search rules in
-    let fits : (k : ℕ) → Fits w8 (get_or row k 0) = λ k. search rules in
-    let same = as_bytes_is 60 row long (λ k. (fits k).fits) in
-    SlotRead.done c.if-not-self.false (omega arith) (omega arith)
-    (ap Ok (rw sub-one at (row_at 60 h (n - 1) row same inside c.read_one.ensures)))
+    let h = held c.args.self.now in
+    let on : h.powered ≡ true = search rules in
+    let long : (x : List ℕ) → c.get.result ≡ Some x → length x ≡ 60 = λ x e. search rules in
+    let fits : (x : List ℕ) → c.get.result ≡ Some x → (k : ℕ) → Fits w8 (get_or x k 0) = λ x e k. search rules in
+    let next : c.args.slot ≡ suc c.in_ok-place.place = grind arith in
+    rw (next, c.ok_or-2.ensures.value)
+    (slot_read (log_model h) c.in_ok-place.place c.get.result on
+    (row_got 60 h c.in_ok-place.place c.get.result c.get.ensures (λ x e. as_bytes_is 60 x (long x e) (λ k. (fits x e k).fits))))
