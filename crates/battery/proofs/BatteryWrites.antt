@@ -13,13 +13,7 @@ use Rattle.battery.proofs.BatteryRows.{rows_set}
 
 -- the model that a write leaves, by whether the old page stays and whether power is lost
 abbrev left : Held (List ℕ) most_pages → ℕ → List ℕ → Bool → Bool → PageModel
-left h at x old lost = pages_model (record {
-  cells = cond old h.cells (set h.cells at x);
-  used = h.used;
-  forced = h.forced;
-  powered = cond lost false h.powered;
-  cut = next_cut h.cut;
-})
+left h at x old lost = pages_model (record h { cells = cond old h.cells (set h.cells at x); powered = cond lost false h.powered; cut = next_cut h.cut })
 
 left_new : (h : Held (List ℕ) most_pages) (at : ℕ) (x : List ℕ) (lost : Bool) → as_bytes 256 x ≡ x
     → left h at x false lost ≡ record { pages = set (pages_model h).pages at x; powered = cond lost false h.powered }
@@ -49,20 +43,27 @@ module _ (before after : Held (List ℕ) most_pages) (at : ℕ) (x : List ℕ) (
   ]
 
 -- With power that is never lost the page is written if it is there, and the owner has the memory back with the page in it, or as it was.
-pub owner_told : (memory : List (List ℕ)) (at : ℕ) (x : List ℕ) (r : Result (Unit {0}) PageFault) (before after : Held (List ℕ) most_pages)
-    → before ≡ made memory (length memory) (None) → BatteryWrote before at x r after
+pub owner_told : (loan : ℕ) (memory : List (List ℕ)) (at : ℕ) (x : List ℕ) (r : Result (Unit {0}) PageFault) (before after : Held (List ℕ) most_pages)
+    → before ≡ made loan memory (length memory) (None) → BatteryWrote before at x r after
     → r ≡ cond (ltb at (min (length memory) most_pages)) (Ok tt) (Err Outside)
-owner_told memory at x r before after m (BatteryWrote.no_power off e same) = absurd (true≢false (sym (ap (λ h. h.powered) m) ∙ off))
-owner_told memory at x r before after m (BatteryWrote.outside on out e same) =
+owner_told loan memory at x r before after m (BatteryWrote.no_power off e same) = absurd (true≢false (sym (ap (λ h. h.powered) m) ∙ off))
+owner_told loan memory at x r before after m (BatteryWrote.outside on out e same) =
     let size = ap (in_use) m in let no : ltb at (min (length memory) most_pages) ≡ false = le-ltb _ _ (omega arith) in cc
-owner_told memory at x r before after m (BatteryWrote.done on inside no_cut e wrote) =
+owner_told loan memory at x r before after m (BatteryWrote.done on inside no_cut e wrote) =
     let size = ap (in_use) m in let yes : ltb at (min (length memory) most_pages) ≡ true = lt-ltb _ _ (omega arith) in cc
-owner_told memory at x r before after m (BatteryWrote.lost on inside cut e wrote) = absurd (true≢false (sym cut ∙ ap (λ h. cuts_now h.cut) m))
+owner_told loan memory at x r before after m (BatteryWrote.lost on inside cut e wrote) = absurd (true≢false (sym cut ∙ ap (λ h. cuts_now h.cut) m))
 
-pub owner_has : (memory : List (List ℕ)) (at : ℕ) (x : List ℕ) (r : Result (Unit {0}) PageFault) (before after : Held (List ℕ) most_pages) {ys : List (List ℕ)}
-    → before ≡ made memory (length memory) (None) → BatteryWrote before at x r after → ys ≡ after.cells
+pub owner_has : (loan : ℕ) (memory : List (List ℕ)) (at : ℕ) (x : List ℕ) (r : Result (Unit {0}) PageFault) (before after : Held (List ℕ) most_pages) {ys : List (List ℕ)}
+    → before ≡ made loan memory (length memory) (None) → BatteryWrote before at x r after → ys ≡ after.cells
     → MatchResult r (λ _. ys ≡ set memory at x) (λ _. ys ≡ memory)
-owner_has memory at x r before after m (BatteryWrote.no_power off e same) back = absurd (true≢false (sym (ap (λ h. h.powered) m) ∙ off))
-owner_has memory at x r before after m (BatteryWrote.outside on out e same) back = rw e (back ∙ ap (λ h. h.cells) (same ∙ m))
-owner_has memory at x r before after m (BatteryWrote.done on inside no_cut e wrote) back = rw e (back ∙ ap (λ h. h.cells) (wrote ∙ ap (written at x) m))
-owner_has memory at x r before after m (BatteryWrote.lost on inside cut e wrote) back = absurd (true≢false (sym cut ∙ ap (λ h. cuts_now h.cut) m))
+owner_has loan memory at x r before after m (BatteryWrote.no_power off e same) back = absurd (true≢false (sym (ap (λ h. h.powered) m) ∙ off))
+owner_has loan memory at x r before after m (BatteryWrote.outside on out e same) back = rw e (back ∙ ap (λ h. h.cells) (same ∙ m))
+owner_has loan memory at x r before after m (BatteryWrote.done on inside no_cut e wrote) back = rw e (back ∙ ap (λ h. h.cells) (wrote ∙ ap (written at x) m))
+owner_has loan memory at x r before after m (BatteryWrote.lost on inside cut e wrote) back = absurd (true≢false (sym cut ∙ ap (λ h. cuts_now h.cut) m))
+
+-- a write stays in the loan
+pub same_loan : (at : ℕ) (x : List ℕ) (r : Result (Unit {0}) PageFault) (before after : Held (List ℕ) most_pages) → BatteryWrote before at x r after → after.loan ≡ before.loan
+same_loan at x r before after (BatteryWrote.no_power off e same) = ap (λ h. h.loan) same
+same_loan at x r before after (BatteryWrote.outside on out e same) = ap (λ h. h.loan) same
+same_loan at x r before after (BatteryWrote.done on inside no_cut e wrote) = ap (λ h. h.loan) wrote
+same_loan at x r before after (BatteryWrote.lost on inside cut e wrote) = ap (λ h. h.loan) wrote

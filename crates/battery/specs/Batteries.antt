@@ -3,9 +3,10 @@ use Rattle.std.specs.Prelude.{◌≡◌, ℕ, zero, suc, ◌+◌, ◌-◌, min, 
 use Rattle.battery.specs.declared.PowerCut.{PowerCut}
 use Rattle.battery.specs.declared.Battery.{Battery}
 
--- of a store of `most` elements at most: the cells as lent; how many of them are in use, and how many of those stand when
--- power is lost; the cut to come
+-- of a store of `most` elements at most: the loan that the cells are, so that their lender has them back as they are here;
+-- the cells; how many of them are in use, and how many of those stand when power is lost; the cut to come
 pub record Held (E : Type 0) (most : ℕ) : Type 0 where
+  pub loan : ℕ
   pub cells : List E
   pub used : ℕ
   pub forced : ℕ
@@ -13,11 +14,11 @@ pub record Held (E : Type 0) (most : ℕ) : Type 0 where
   pub cut : Option PowerCut
 
 abbrev pub held : {E : Type 0} {most : ℕ} → Battery E most → Held E most
-held b = record { cells = b.cells.now; used = b.used; forced = b.forced; powered = b.powered; cut = b.cut }
+held b = record { loan = b.cells.ghost_name; cells = b.cells.now; used = b.used; forced = b.forced; powered = b.powered; cut = b.cut }
 
 -- at the making there is power, and what is in use stands
-abbrev pub made : {E : Type 0} {most : ℕ} → List E → ℕ → Option PowerCut → Held E most
-made cells used cut = record { cells = cells; used = used; forced = used; powered = true; cut = cut }
+abbrev pub made : {E : Type 0} {most : ℕ} → ℕ → List E → ℕ → Option PowerCut → Held E most
+made loan cells used cut = record { loan = loan; cells = cells; used = used; forced = used; powered = true; cut = cut }
 
 -- how many elements there may be
 abbrev pub room : {E : Type 0} {most : ℕ} → Held E most → ℕ
@@ -69,13 +70,7 @@ standing (Some c) new = cond (c.after == 0) (min new c.stands) new
 
 -- a write or force is counted, and power is lost in it if it is the one
 abbrev pub counted : {E : Type 0} {most : ℕ} → Held E most → List E → ℕ → Held E most
-counted h cells forced = record {
-  cells = cells;
-  used = h.used;
-  forced = forced;
-  powered = cond (cuts_now h.cut) false h.powered;
-  cut = next_cut h.cut;
-}
+counted h cells forced = record h { cells = cells; forced = forced; powered = cond (cuts_now h.cut) false h.powered; cut = next_cut h.cut }
 
 -- a write brings one element
 abbrev pub written : {E : Type 0} {most : ℕ} → ℕ → E → Held E most → Held E most
@@ -87,18 +82,12 @@ forced_on h = counted h h.cells (now_forced h + standing h.cut (in_use h - now_f
 
 -- an append is not counted, and forces nothing
 abbrev pub appended : {E : Type 0} {most : ℕ} → E → Held E most → Held E most
-appended element h = record {
-  cells = slice_set h.cells (in_use h) element;
-  used = in_use h + 1;
-  forced = now_forced h;
-  powered = h.powered;
-  cut = h.cut;
-}
+appended element h = record h { cells = slice_set h.cells (in_use h) element; used = in_use h + 1; forced = now_forced h }
 
 -- power comes back; the cut to come stays
 abbrev pub on_again : {E : Type 0} {most : ℕ} → Held E most → Held E most
-on_again h = record { cells = h.cells; used = h.used; forced = h.forced; powered = true; cut = h.cut }
+on_again h = record h { powered = true }
 
 -- and only the forced elements are in use
 abbrev pub cut_back : {E : Type 0} {most : ℕ} → Held E most → Held E most
-cut_back h = record { cells = h.cells; used = now_forced h; forced = now_forced h; powered = true; cut = h.cut }
+cut_back h = record h { used = now_forced h; forced = now_forced h; powered = true }

@@ -46,8 +46,7 @@ impl PowerCut {
 impl<'a, E, const MOST: usize> Battery<'a, E, MOST> {
     // What is in use at the making stands.
     fn new(cells: &'a mut [E], used: usize, cut: Option<PowerCut>) -> Battery<'a, E, MOST>
-        ensures held { held result ≡ made cells.old used cut }
-        ensures lent { result.cells.ghost_name ≡ cells.entry.ghost_name }
+        ensures { held result ≡ made cells.entry.ghost_name cells.old used cut }
     {
         Battery {
             cells,
@@ -93,8 +92,7 @@ impl<E: Copy, const MOST: usize> Battery<'_, E, MOST> {
 
     fn write_one(&mut self, place: usize, element: &E)
         requires { place < length self.old.cells.now }
-        ensures held { held self.new ≡ written place element.now (held self.old) }
-        ensures lent { self.new.cells.ghost_name ≡ self.old.cells.ghost_name }
+        ensures { held self.new ≡ written place element.now (held self.old) }
     {
         if self.count(1) > 0 {
             self.cells[place] = *element;
@@ -103,8 +101,7 @@ impl<E: Copy, const MOST: usize> Battery<'_, E, MOST> {
 
     fn append_one(&mut self, element: &E)
         requires { in_use (held self.old) < room (held self.old) }
-        ensures held { held self.new ≡ appended element.now (held self.old) }
-        ensures lent { self.new.cells.ghost_name ≡ self.old.cells.ghost_name }
+        ensures { held self.new ≡ appended element.now (held self.old) }
     {
         let place = self.in_use();
         self.forced = self.now_forced();
@@ -113,8 +110,7 @@ impl<E: Copy, const MOST: usize> Battery<'_, E, MOST> {
     }
 
     fn force_used(&mut self)
-        ensures held { held self.new ≡ forced_on (held self.old) }
-        ensures lent { self.new.cells.ghost_name ≡ self.old.cells.ghost_name }
+        ensures { held self.new ≡ forced_on (held self.old) }
     {
         let used = self.in_use();
         let forced = self.now_forced();
@@ -123,8 +119,7 @@ impl<E: Copy, const MOST: usize> Battery<'_, E, MOST> {
 
     // Power comes back, and only the forced elements are in use.
     fn cut_back(&mut self)
-        ensures held { held self.new ≡ cut_back (held self.old) }
-        ensures lent { self.new.cells.ghost_name ≡ self.old.cells.ghost_name }
+        ensures { held self.new ≡ cut_back (held self.old) }
     {
         let forced = self.now_forced();
         self.used = forced;
@@ -133,8 +128,7 @@ impl<E: Copy, const MOST: usize> Battery<'_, E, MOST> {
     }
 
     fn turn_on(&mut self)
-        ensures held { held self.new ≡ on_again (held self.old) }
-        ensures lent { self.new.cells.ghost_name ≡ self.old.cells.ghost_name }
+        ensures { held self.new ≡ on_again (held self.old) }
     {
         self.powered = true;
     }
@@ -143,7 +137,6 @@ impl<E: Copy, const MOST: usize> Battery<'_, E, MOST> {
     fn count(&mut self, new: usize) -> usize
         ensures stand { result ≡ standing self.old.cut new }
         ensures held { held self.new ≡ counted (held self.old) self.old.cells.now self.old.forced }
-        ensures lent { self.new.cells.ghost_name ≡ self.old.cells.ghost_name }
     {
         let Some(cut) = self.cut else {
             return new;

@@ -17,9 +17,8 @@ pub type BatteryPages<'a> = Battery<'a, [u8; 256], MOST_PAGES>;
 // The pages are as found in the memory, of which there may be 65,536.
 pub fn battery_pages<'a>(memory: &'a mut [[u8; 256]], cut: Option<PowerCut>) -> BatteryPages<'a>
     ensures pages { pages_model (held result) ≡ record { pages = map (as_bytes 256) (take most_pages memory.old); powered = true } }
-    ensures rule { held result ≡ made memory.old (length memory.old) cut }
+    ensures rule { held result ≡ made memory.entry.ghost_name memory.old (length memory.old) cut }
     ensures once { LostOnce cut }
-    ensures lent { result.cells.ghost_name ≡ memory.entry.ghost_name }
 {
     let used = memory.len();
     Battery::new(memory, used, cut)
@@ -52,7 +51,6 @@ impl PageStore for BatteryPages<'_> {
     fn write(&mut self, page: u32, bytes: &[u8; 256]) -> Result<(), PageFault>
         ensures outcome { PageWritten (pages_model (held self.old)) page bytes.now result (pages_model (held self.new)) }
         ensures rule { BatteryWrote (held self.old) page bytes.now result (held self.new) }
-        ensures lent { self.new.cells.ghost_name ≡ self.old.cells.ghost_name }
     {
         let lost = PageFault::PowerLost(page);
         self.check_power(lost)?;
@@ -67,7 +65,6 @@ impl PageStore for BatteryPages<'_> {
     fn power_on(&mut self)
         ensures outcome { pages_model (held self.new) ≡ powered_on (pages_model (held self.old)) }
         ensures rule { held self.new ≡ on_again (held self.old) }
-        ensures lent { self.new.cells.ghost_name ≡ self.old.cells.ghost_name }
     {
         self.turn_on();
     }

@@ -16,9 +16,8 @@ pub type BatteryLog<'a> = Battery<'a, [u8; 60], MOST_SLOTS>;
 // The log starts empty, whatever the memory holds.
 pub fn battery_log<'a>(memory: &'a mut [[u8; 60]], cut: Option<PowerCut>) -> BatteryLog<'a>
     ensures log { log_model (held result) ≡ record { capacity = min (length memory.old) most_slots; slots = []; forced = 0; powered = true } }
-    ensures rule { held result ≡ made memory.old 0 cut }
+    ensures rule { held result ≡ made memory.entry.ghost_name memory.old 0 cut }
     ensures once { LostOnce cut }
-    ensures lent { result.cells.ghost_name ≡ memory.entry.ghost_name }
 {
     Battery::new(memory, 0, cut)
 }
@@ -58,7 +57,6 @@ impl LogStore for BatteryLog<'_> {
     fn append(&mut self, bytes: &[u8; 60]) -> Result<(), LogFault>
         ensures outcome { SlotAppended (log_model (held self.old)) bytes.now result (log_model (held self.new)) }
         ensures rule { BatteryAppended (held self.old) bytes.now result (held self.new) }
-        ensures lent { self.new.cells.ghost_name ≡ self.old.cells.ghost_name }
     {
         let length = self.in_use();
         self.check_power(LogFault::PowerLost(length as u32 + 1))?;
@@ -72,7 +70,6 @@ impl LogStore for BatteryLog<'_> {
     fn force(&mut self) -> Result<(), LogFault>
         ensures outcome { LogForced (log_model (held self.old)) result (log_model (held self.new)) }
         ensures rule { BatteryForced (held self.old) result (held self.new) }
-        ensures lent { self.new.cells.ghost_name ≡ self.old.cells.ghost_name }
     {
         let lost = LogFault::PowerLost(self.in_use() as u32);
         self.check_power(lost)?;
@@ -83,7 +80,6 @@ impl LogStore for BatteryLog<'_> {
     fn power_on(&mut self)
         ensures outcome { log_model (held self.new) ≡ powered_on (log_model (held self.old)) }
         ensures rule { held self.new ≡ cut_back (held self.old) }
-        ensures lent { self.new.cells.ghost_name ≡ self.old.cells.ghost_name }
     {
         self.cut_back();
     }

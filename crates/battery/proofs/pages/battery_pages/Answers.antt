@@ -9,9 +9,8 @@ use Rattle.battery.proofs.pages.battery_pages.Goals as goal
 pub returns : goal.returns
 returns c = record {
   pages =
-      ap pages_model c.new.ensures.held
+      ap pages_model c.new.ensures
       ∙ ap (λ l. let m : PageModel = record { pages = map (as_bytes 256) l; powered = true } in m) (take_found 65536 c.args.memory.now);
-  rule = c.new.ensures.held;
+  rule = c.new.ensures;
   once = lost_once c.args.cut;
-  lent = c.new.ensures.lent;
 }

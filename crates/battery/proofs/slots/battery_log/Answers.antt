@@ -3,4 +3,4 @@ use Rattle.battery.proofs.BatteryCuts.{lost_once}
 use Rattle.battery.proofs.slots.battery_log.Goals as goal
 
 pub returns : goal.returns
-returns c = record { log = search rules; rule = c.new.ensures.held; once = lost_once c.args.cut; lent = c.new.ensures.lent }
+returns c = record { log = search rules; rule = c.new.ensures; once = lost_once c.args.cut }
