@@ -24,6 +24,11 @@ without_power m = record { pages = m.pages; powered = false }
 abbrev pub powered_on : PageModel → PageModel
 powered_on m = record { pages = m.pages; powered = true }
 
+-- a fault in a store names the page at which it is there
+abbrev pub fault_at : PageFault → ℕ → PageFault
+fault_at (PowerLost _) page = PowerLost page
+fault_at Outside page = Outside
+
 -- reading a page alters nothing
 pub data PageRead (m : PageModel) (at : ℕ) (r : Result (List ℕ) PageFault) : Type 0 where
   no_power : m.powered ≡ false → r ≡ Err (PowerLost at) → PageRead m at r

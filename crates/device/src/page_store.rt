@@ -1,6 +1,6 @@
 // A page store: pages of 256 bytes that a write replaces whole, and power that may be lost in a write.
 ghost use Rattle.std.specs.Prelude.{◌≡◌, length};
-ghost use Rattle.device.specs.PageStores.{PageModel, SoundPages, PageRead, PageWritten, powered_on};
+ghost use Rattle.device.specs.PageStores.{PageModel, SoundPages, PageRead, PageWritten, powered_on, fault_at};
 
 // Without power every call answers `PowerLost`, but for the size, whether there is power, and to power on.
 #[derive(Clone, Copy, Debug, PartialEq, Eq)]
@@ -9,6 +9,18 @@ pub enum PageFault {
     PowerLost(u32),
     // The store has no such page.
     Outside,
+}
+
+impl PageFault {
+    // The same fault in a store that has the faulty one as a part, and numbers its pages otherwise.
+    pub fn at(self, page: u32) -> PageFault
+        ensures { result ≡ fault_at self page }
+    {
+        match self {
+            PageFault::PowerLost(_) => PageFault::PowerLost(page),
+            PageFault::Outside => PageFault::Outside,
+        }
+    }
 }
 
 pub trait PageStore {

@@ -1,16 +1,21 @@
 -- What a half does, the span does.
-use Rattle.std.proofs.Common.{◌≡◌, ℕ, zero, suc, ◌+◌, ◌-◌, ◌<◌, ◌≤◌, min, Bool, true, false, ◌&&◌, List, [], ◌∷◌, ◌++◌, length, get_or, take, set, Ok, Result, sym, refl, ap, ◌∙◌, arith}
+use Rattle.std.proofs.Common.{◌≡◌, ℕ, zero, suc, ◌+◌, ◌-◌, ◌<◌, ◌≤◌, min, Bool, true, false, ◌&&◌, List, [], ◌∷◌, ◌++◌, length, get_or, take, set, Ok, Err, Result, sym, refl, ap, ◌∙◌, arith}
 use Rattle.std.proofs.lemmas.List.{length-take, length-append, get_or-take, get_or_append_left, get_or-append_right, set-append_left, set-append_right}
 use Rattle.std.proofs.lemmas.Bool.{both_ways, and_parts, and_right}
 use Rattle.device.specs.declared.page_store.PageFault.{PageFault}
-use Rattle.device.specs.PageStores.{PageModel, PageRead, PageWritten, with_page, without_power}
-use Rattle.span.specs.Spans.{joined, at_page}
+use Rattle.device.specs.PageStores.{PageModel, PageRead, PageWritten, with_page, without_power, fault_at}
+use Rattle.span.specs.Spans.{joined}
 
 take_set : {X : Type 0} (n : ℕ) (xs : List X) (i : ℕ) (y : X) → take n (set xs i y) ≡ set (take n xs) i y
 take_set zero xs i y = refl
 take_set (suc n) [] i y = refl
 take_set (suc n) (x ∷ xs) zero y = refl
 take_set (suc n) (x ∷ xs) (suc i) y = ap (λ l. x ∷ l) (take_set n xs i y)
+
+-- a fault of the second half names the page of the span
+abbrev pub at_page : {T : Type 0} → Result T PageFault → ℕ → Result T PageFault
+at_page (Ok x) page = Ok x
+at_page (Err f) page = Err (fault_at f page)
 
 pub joined_size : (a b : PageModel) → length (joined a b).pages ≡ min 65536 (length a.pages + length b.pages)
 joined_size a b = length-take 65536 (a.pages ++ b.pages) ∙ ap (λ n. min 65536 n) (length-append a.pages b.pages)

@@ -1,22 +1,14 @@
 -- Two page stores, one after the other, as one. Assumes nothing.
 use Rattle.std.proofs.Common.{sym, subst, ⊎_elim, arith}
-use Rattle.std.specs.Prelude.{ℕ, ◌-◌, ◌&&◌, List, [], ◌++◌, length, take, Ok, Err, Result, refl}
+use Rattle.std.specs.Prelude.{ℕ, ◌-◌, ◌&&◌, List, [], ◌++◌, length, take, refl}
 use Rattle.std.proofs.lemmas.List.{length-take, length-append, get_or-take, get_or_append_left, get_or-append_right}
 use Rattle.std.proofs.lemmas.Bool.{cases_lt}
 use Rattle.format.specs.Bytes.{Bytes}
-use Rattle.device.specs.declared.page_store.PageFault.{PageFault}
-use Rattle.device.specs.declared.page_store.PageFault.TheVariants.{PowerLost, Outside}
 use Rattle.device.specs.PageStores.{PageModel, SoundPages}
 
 -- the pages of the first, then those of the second, 65,536 at most; there is power where both have it
 abbrev pub joined : PageModel → PageModel → PageModel
 joined a b = record { pages = take 65536 (a.pages ++ b.pages); powered = a.powered && b.powered }
-
--- a fault names the page of the span
-abbrev pub at_page : {T : Type 0} → Result T PageFault → ℕ → Result T PageFault
-at_page (Ok x) page = Ok x
-at_page (Err (PowerLost _)) page = Err (PowerLost page)
-at_page (Err Outside) page = Err Outside
 
 pub joined_sound : (a b : PageModel) → SoundPages a → SoundPages b → SoundPages (joined a b)
 joined_sound a b sa sb =

@@ -3,7 +3,7 @@
 
 ghost use Rattle.std.specs.Prelude.{◌≡◌, length};
 ghost use Rattle.device.specs.PageStores.{PageRead, PageWritten, powered_on};
-ghost use Rattle.span.specs.Spans.{joined, joined_sound, at_page};
+ghost use Rattle.span.specs.Spans.{joined, joined_sound};
 
 use device::{PageFault, PageStore};
 
@@ -50,7 +50,9 @@ impl<A: PageStore, B: PageStore> PageStore for Span<A, B> {
         if page < first {
             return self.first.read(page);
         }
-        at_page(self.second.read(page - first), page)
+        self.second
+            .read(page - first)
+            .map_err(|fault| fault.at(page))
     }
 
     fn write(&mut self, page: u32, bytes: &[u8; 256]) -> Result<(), PageFault> {
@@ -64,22 +66,13 @@ impl<A: PageStore, B: PageStore> PageStore for Span<A, B> {
         if page < first {
             return self.first.write(page, bytes);
         }
-        at_page(self.second.write(page - first, bytes), page)
+        self.second
+            .write(page - first, bytes)
+            .map_err(|fault| fault.at(page))
     }
 
     fn power_on(&mut self) {
         self.first.power_on();
         self.second.power_on();
-    }
-}
-
-// A fault of the second half names the span's page.
-fn at_page<T>(answer: Result<T, PageFault>, page: u32) -> Result<T, PageFault>
-    ensures { result ≡ at_page answer page }
-{
-    match answer {
-        Ok(value) => Ok(value),
-        Err(PageFault::PowerLost(_)) => Err(PageFault::PowerLost(page)),
-        Err(PageFault::Outside) => Err(PageFault::Outside),
     }
 }
