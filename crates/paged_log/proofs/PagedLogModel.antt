@@ -1,15 +1,16 @@
 -- The model of a log on pages: what its making gives, and what each call makes of it.
-use Rattle.std.proofs.Common.{◌≡◌, ℕ, suc, pred, ◌-◌, ◌/◌, ◌%◌, ◌<◌, ◌≤◌, min, Bool, true, false, ltb, List, [], ◌∷◌, ◌++◌, length, get_or, take, Ok, Result, sym, refl, ap, ◌∙◌, subst, ⊎_elim, arith}
+use Rattle.std.proofs.Common.{◌≡◌, ℕ, suc, ◌/◌, ◌%◌, ◌<◌, ◌≤◌, Bool, true, false, cond, ltb, List, [], ◌∷◌, ◌++◌, length, get_or, take, replicate, Ok, Err, Result, sym, refl, ap, ◌∙◌, subst, ⊎_elim, arith}
 use Rattle.std.specs.Str.{bytes_eq}
-use Rattle.std.proofs.lemmas.List.{take_all, take_at, length_push}
+use Rattle.std.proofs.lemmas.List.{take_all, take_at, length_push, length-replicate, get_or-replicate, get_or_past}
+use Rattle.format.specs.Bytes.{Bytes}
 use Rattle.std.proofs.lemmas.Slice.Eq.{bytes_eq-Decides}
-use Rattle.std.proofs.lemmas.Bool.{cases_Bool, and_parts}
+use Rattle.std.proofs.lemmas.Bool.{cases_Bool, cases_lt, and_parts}
 use Rattle.device.specs.declared.page_store.PageFault.{PageFault}
-use Rattle.device.specs.Memory.{as_bytes}
+use Rattle.device.specs.declared.log_store.LogFault.TheVariants.{PowerLost}
 use Rattle.device.specs.PageStores as store
 use Rattle.device.specs.PageStores.{PageModel, PageRead}
 use Rattle.device.specs.LogStores.{LogModel, SlotRead, LogForced, state}
-use Rattle.paged_log.specs.PagedLogs.{count_of, slot_in, slot_at, first_slots, log_length, stands, held, sure, room, paged, found, Says, at_power}
+use Rattle.paged_log.specs.PagedLogs.{count_of, slot_in, slot_at, first_slots, log_length, log_of, stands, held, sure, room, paged, found, Says, at_power}
 use Rattle.paged_log.specs.PagedLogsSound.{length_first, get_or_first, held_size}
 use Rattle.paged_log.proofs.PagedLogEnds.{take_first, length_most}
 
@@ -21,51 +22,51 @@ read_page m at r page (PageRead.done p l e) o = cc
 pub at_this : (m : PageModel) (b : Bool) → m.powered ≡ b → m ≡ at_power b m.pages
 at_this m b e = ap (λ (t : Bool). record { pages = m.pages; powered = t }) e
 
+zero_at : (n k : ℕ) → ◌≡◌ {A = ℕ} (get_or (replicate n 0) k 0) 0
+zero_at n k = ⊎_elim (λ l. get_or-replicate n k 0 0 l) (λ l. get_or_past (replicate n 0) k 0 (omega (arith, length-replicate {A = ℕ} n 0))) (cases_lt k n)
+
+pub zeros_fit : (n : ℕ) → Bytes n (replicate n 0)
+zeros_fit n = record { size = length-replicate n 0; small = λ k. let e = zero_at n k in omega arith }
+
 -- the making
-module _ (m : PageModel) (last : List ℕ) where
-  least : min (log_length m.pages) (room m) ≡ log_length m.pages
-  least = let l = length_most m.pages in omega arith
-
-  new_log : paged (store.powered_on m) (log_length m.pages) last ≡ found m
-  new_log = ap (λ (n : ℕ). record { capacity = room m; slots = first_slots m.pages n; forced = n; powered = true }) least
-
-  new_says : Says m (found m)
-  new_says = sym (take_first m.pages (log_length m.pages) (log_length m.pages) (omega arith))
-
 module _ (m m' : PageModel) (on : m' ≡ store.powered_on m) (len : ℕ) (ends : len ≡ log_length m'.pages) (last : List ℕ) where
-  same : len ≡ log_length m.pages
-  same = ends ∙ ap (λ (x : PageModel). log_length x.pages) on
-
   pub made_log : paged m' len last ≡ found m
-  made_log = ap (λ (x : PageModel). paged x len last) on ∙ ap (λ (n : ℕ). paged (store.powered_on m) n last) same ∙ new_log m last
+  made_log = ap (λ (n : ℕ). paged m' n last) ends ∙ ap (λ (x : PageModel). paged x (log_length x.pages) last) on
+
+  pub made_in_room : len ≤ room m'
+  made_in_room = let most = length_most m'.pages in omega arith
 
   pub made_agrees : Says m' (paged m' len last)
-  made_agrees = subst (λ (l : LogModel). Says m' l) (sym made_log) (subst (λ (x : PageModel). Says x (found m)) (sym on) (new_says m last))
+  made_agrees = subst (λ (l : LogModel). Says m' l) (sym made_log) (ap (λ (x : PageModel). log_of x.pages) on
+      ∙ sym (take_first m.pages (log_length m.pages) (log_length m.pages) (omega arith)))
 
 -- the length, whatever the power
-pub slots_size : (m : PageModel) (len : ℕ) (last : List ℕ) → length (paged m len last).slots ≡ min len (room m)
-slots_size m len last = held_size m.powered m.pages (min len (room m)) (as_bytes 60 last)
+pub slots_size : (m : PageModel) (len : ℕ) (last : List ℕ) → length (paged m len last).slots ≡ len
+slots_size m len last = held_size m.powered m.pages len last
 
 -- with power: every slot stands and is forced
 module _ (m : PageModel) (len : ℕ) (last : List ℕ) (on : m.powered ≡ true) where
-  pub with_power : paged m len last
-      ≡ record { capacity = room m; slots = first_slots m.pages (min len (room m)); forced = min len (room m); powered = true }
+  pub with_power : paged m len last ≡ record { capacity = room m; slots = first_slots m.pages len; forced = len; powered = true }
   with_power = ap (λ (x : PageModel). paged x len last) (at_this m true on)
 
-  pub read_slot : (slot : ℕ) (page : List ℕ) (found : List ℕ) → 0 < slot → slot ≤ min len (room m) → page ≡ get_or m.pages ((slot - 1) / 4) []
-      → found ≡ slot_in page ((slot - 1) % 4) → SlotRead (paged m len last) slot (Ok found)
-  read_slot slot page found some inside p f =
-      let n = slots_size m len last in
-      let same : slot - 1 ≡ pred slot = omega arith in
-      SlotRead.done on some (omega arith) (ap Ok (f ∙ ap (λ (x : List ℕ). slot_in x ((slot - 1) % 4)) p
-      ∙ ap (slot_at m.pages) same ∙ sym (get_or_first m.pages (min len (room m)) (pred slot) (omega arith))
-      ∙ sym (ap (λ (l : LogModel). get_or l.slots (pred slot) []) with_power)))
+  pub read_slot : (n : ℕ) (page found : List ℕ) → n < len → page ≡ get_or m.pages (n / 4) [] → found ≡ slot_in page (n % 4)
+      → SlotRead (paged m len last) (suc n) (Ok found)
+  read_slot n page found inside p f =
+      let size = slots_size m len last in
+      SlotRead.done on (omega arith) (omega arith) (ap Ok (f ∙ ap (λ (x : List ℕ). slot_in x (n % 4)) p
+      ∙ sym (ap (λ (l : LogModel). get_or l.slots n []) with_power ∙ get_or_first m.pages len n inside)))
 
   pub forced_all : LogForced (paged m len last) (Ok tt) (paged m len last)
   forced_all = LogForced.done on refl
       (with_power ∙ sym (ap (λ (l : LogModel). state l l.slots (length l.slots) true) with_power
-      ∙ ap (λ (n : ℕ). record { capacity = room m; slots = first_slots m.pages (min len (room m)); forced = n; powered = true })
-      (length_first m.pages (min len (room m)))))
+      ∙ ap (λ (n : ℕ). record { capacity = room m; slots = first_slots m.pages len; forced = n; powered = true }) (length_first m.pages len)))
+
+pub log_forced : (m : PageModel) (len : ℕ) (last : List ℕ) → LogForced (paged m len last) (cond m.powered (Ok tt) (Err (PowerLost len))) (paged m len last)
+log_forced m len last = ⊎_elim
+    (λ on. subst (λ (p : Bool). LogForced (paged m len last) (cond p (Ok tt) (Err (PowerLost len))) (paged m len last)) (sym on) (forced_all m len last on))
+    (λ off. subst (λ (p : Bool). LogForced (paged m len last) (cond p (Ok tt) (Err (PowerLost len))) (paged m len last)) (sym off)
+    (LogForced.no_power off (ap (λ (n : ℕ). Err (PowerLost n)) (sym (slots_size m len last))) refl))
+    (cases_Bool m.powered)
 
 -- without power the last slot may not be there
 stood : (pages : List (List ℕ)) (n : ℕ) (last : List ℕ) → stands pages n last ≡ true → slot_at pages n ≡ last

@@ -9,23 +9,28 @@
 // one that is where its page has it, and `power_on` looks.
 #![tactic(auto)]
 
-ghost use Rattle.std.specs.Prelude.{◌≡◌, min};
+ghost use Rattle.std.specs.Prelude.{◌≡◌, ◌≤◌, if◌then◌else◌, Ok, Err};
+ghost use Rattle.format.specs.Bytes.{Bytes};
 ghost use Rattle.device.specs.PageStores.{powered_on};
-ghost use Rattle.paged_log.specs.PagedLogs.{model_of, found, room, Agrees};
+ghost use Rattle.paged_log.specs.PagedLogs.{paged, found, room, Says};
 
-use device::PageStore;
+use device::{LogFault, PageStore};
 
 mod page;
 mod put;
 mod store;
 
 #[derive(Drop)]
-pub struct PagedLog<P> {
+pub struct PagedLog<P: PageStore> {
     pages: P,
     // How many slots there are, with the slot of an append in which power was lost.
     len: u32,
     // The slot of the last append.
     last: [u8; 60],
+    pub ghost in_room: { len ≤ room (P.PageStore.model pages) },
+    pub ghost whole: { Bytes 60 last },
+    // The pages say the forced slots and no other: a log that is made over them again has what power-on would leave.
+    pub ghost agrees: { Says (P.PageStore.model pages) (paged (P.PageStore.model pages) len last) },
 }
 
 impl<P: PageStore> PagedLog<P> {
@@ -33,8 +38,7 @@ impl<P: PageStore> PagedLog<P> {
     // nothing is written.
     pub fn new(mut pages: P) -> PagedLog<P>
         ensures pages { P.PageStore.model result.pages ≡ powered_on (P.PageStore.model pages) }
-        ensures log { model_of P.PageStore.model result ≡ found (P.PageStore.model pages) }
-        ensures agrees { Agrees P.PageStore.model result }
+        ensures log { paged (P.PageStore.model result.pages) result.len result.last ≡ found (P.PageStore.model pages) }
     {
         pages.power_on();
         let len = put::end(&pages);
@@ -51,11 +55,14 @@ impl<P: PageStore> PagedLog<P> {
     {
         self.pages
     }
-
-    // The store's size never changes; the length is never above four times that.
-    fn length(&self) -> u32
-        ensures { result ≡ min self.now.len (room (P.PageStore.model self.now.pages)) }
+    // A loss of power is reported at this slot.
+    fn check_power(&self, slot: u32) -> Result<(), LogFault>
+        ensures { result ≡ (if (P.PageStore.model self.now.pages).powered then Ok tt else Err (LogFault.PowerLost slot)) }
     {
-        self.len.min(4 * self.pages.size())
+        if self.pages.is_powered() {
+            Ok(())
+        } else {
+            Err(LogFault::PowerLost(slot))
+        }
     }
 }

@@ -6,7 +6,7 @@ ghost use Rattle.paged_log.specs.PagedLogs.{count_of, slot_in, page_with};
 pub(crate) fn count(page: &[u8; 256]) -> u32
     ensures { result ≡ count_of page.now }
 {
-    u32::from_le_bytes([page[0], page[1], page[2], page[3]]).min(4)
+    format::number_at(page, 0).min(4)
 }
 
 pub(crate) fn slot(page: &[u8; 256], place: usize) -> [u8; 60]

@@ -1,6 +1,5 @@
 // What a log does with its pages while there is power: find the end, see whether a slot stands, put a slot.
 ghost use Rattle.std.specs.Prelude.{◌≡◌, ◌<◌, true};
-ghost use Rattle.device.specs.Memory.{as_bytes};
 ghost use Rattle.paged_log.specs.PagedLogs.{log_length, room, stands, room_made, Made, SlotPut};
 
 use crate::page;
@@ -27,8 +26,7 @@ pub(crate) fn end<P: PageStore>(pages: &P) -> u32
 // Whether slot n, counted from 0, is part of its page and has these bytes.
 pub(crate) fn stands<P: PageStore>(pages: &P, n: u32, slot: &[u8; 60]) -> bool
     requires { ((P.PageStore.model pages.now).powered ≡ true) × (n < room (P.PageStore.model pages.now)) }
-    ensures value { result ≡ stands (P.PageStore.model pages.now).pages n slot.now }
-    ensures whole { as_bytes 60 slot.now ≡ slot.now }
+    ensures { result ≡ stands (P.PageStore.model pages.now).pages n slot.now }
 {
     let Ok(bytes) = pages.read(n / 4) else {
         return false;

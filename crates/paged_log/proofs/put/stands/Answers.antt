@@ -1,7 +1,6 @@
 use Rattle.std.proofs.Common.{arith}
 use Rattle.std.proofs.lemmas.Slice.Eq.{slice_eq-Decides}
 use Rattle.paged_log.proofs.PagedLogWrites.{stands_not, stands_there}
-use Rattle.device.proofs.Rows.{as_bytes_is}
 use Rattle.paged_log.proofs.PagedLogModel.{read_page}
 use Rattle.paged_log.proofs.put.stands.Goals as goal
 use Rattle.std.proofs.lemmas.Bool.Decides.{Decides-eqb}
@@ -9,18 +8,12 @@ use Rattle.std.proofs.lemmas.Bool.Decides.{Decides-eqb}
 pub returns-then-place-count : goal.returns-then-place-count
 returns-then-place-count g c =
     let m = g.P.PageStore.model c.args.pages.now in
-    record {
-      value = stands_not m.pages c.args.n c.args.slot.now c.in-Ok.bytes
-          (read_page m _ c.read.result c.in-Ok.bytes c.read.ensures c.in-Ok.is) (omega arith);
-      whole = as_bytes_is 60 c.args.slot.now c.told-slot c.fits-slot;
-    }
+    stands_not m.pages c.args.n c.args.slot.now c.in-Ok.bytes
+    (read_page m _ c.read.result c.in-Ok.bytes c.read.ensures c.in-Ok.is) (omega arith)
 
 pub returns : goal.returns
 returns g c =
     let m = g.P.PageStore.model c.args.pages.now in
-    record {
-      value = stands_there m.pages c.args.n c.args.slot.now c.in-Ok.bytes c.slot.result c.eq.result
-          (read_page m _ c.read.result c.in-Ok.bytes c.read.ensures c.in-Ok.is) (omega arith) c.slot.ensures
-          (slice_eq-Decides Decides-eqb c.slot.result c.args.slot.now c.eq.result c.eq.ensures);
-      whole = as_bytes_is 60 c.args.slot.now c.told-slot c.fits-slot;
-    }
+    stands_there m.pages c.args.n c.args.slot.now c.in-Ok.bytes c.slot.result c.eq.result
+    (read_page m _ c.read.result c.in-Ok.bytes c.read.ensures c.in-Ok.is) (omega arith) c.slot.ensures
+    (slice_eq-Decides Decides-eqb c.slot.result c.args.slot.now c.eq.result c.eq.ensures)

@@ -1,45 +1,46 @@
-use Rattle.std.proofs.Common.{◌≡◌, ℕ, ◌+◌, Err, sym, ◌∙◌, subst, arith}
+use Rattle.std.proofs.Common.{◌≡◌, ◌+◌, true, false, Err, rules, arith}
 use Rattle.device.specs.declared.log_store.LogFault.TheVariants.{PowerLost}
-use Rattle.device.specs.LogStores.{SlotAppended}
-use Rattle.paged_log.specs.PagedLogs.{paged}
-use Rattle.paged_log.proofs.PagedLogCalls.{lost_already, full_already, append_done, append_lost_power}
+use Rattle.format.specs.Bytes.{Bytes}
+use Rattle.paged_log.proofs.PagedLogCalls.{slot_fault, lost_already, full_already, slot_appended, slot_written, in_room_after, says_after}
 use Rattle.paged_log.proofs.store.PagedLogLogStore.append.Goals as goal
 
-pub returns-then-not-is_powered : goal.returns-then-not-is_powered
-returns-then-not-is_powered g c =
+pub returns-in_err-check_power-clause-appended : goal.returns-in_err-check_power-clause-appended
+returns-in_err-check_power-clause-appended g c =
+    let self = c.args.self.now in
+    let off : (g.P.PageStore.model self.pages).powered ≡ false = search rules in
+    let lost : c.from_residual.result ≡ Err (PowerLost (self.len + 1)) = search rules in
+    rw lost (lost_already (g.P.PageStore.model self.pages) self.len self.last c.args.bytes.now off)
+
+pub returns-then-n-capacity-clause-appended : goal.returns-then-n-capacity-clause-appended
+returns-then-n-capacity-clause-appended g c =
+    let self = c.args.self.now in
+    let on : (g.P.PageStore.model self.pages).powered ≡ true = search rules in
+    full_already (g.P.PageStore.model self.pages) self.len self.last c.args.bytes.now on (omega arith)
+
+pub invariant_of-self : goal.invariant_of-self
+invariant_of-self g c =
     let self = c.args.self.now in
     let m = g.P.PageStore.model self.pages in
-    let l = paged m self.len self.last in
+    let on : m.powered ≡ true = search rules in
+    let whole : Bytes 60 c.args.bytes.now = record { size = c.told-bytes; small = c.fits-bytes } in
     record {
-      appended = subst (λ (n : ℕ). SlotAppended l c.args.bytes.now (Err (PowerLost (n + 1))) l) (sym c.length-len.ensures)
-          (lost_already m self.len self.last c.args.bytes.now (sym c.is_powered.ensures ∙ c.if-not-is_powered.true));
-      written = λ e. let z : ◌≡◌ {A = ℕ} 0 1 = cc in absurd (omega arith);
-      agrees = λ says. says;
+      in_room = in_room_after m on (g.P.PageStore.sound self.pages) self.len self.last c.args.bytes.now whole
+          (omega arith) self.agrees c.put.result (g.P.PageStore.model c.put.new.pages) c.put.ensures;
+      whole = whole;
+      agrees = says_after m on (g.P.PageStore.sound self.pages) self.len self.last c.args.bytes.now whole
+          (omega arith) self.agrees c.put.result (g.P.PageStore.model c.put.new.pages) c.put.ensures;
     }
 
-pub returns-then-len-capacity : goal.returns-then-len-capacity
-returns-then-len-capacity g c =
+pub returns : goal.returns
+returns g c =
     let self = c.args.self.now in
-    record {
-      appended = full_already (g.P.PageStore.model self.pages) self.len self.last c.args.bytes.now
-          (sym c.is_powered.ensures ∙ c.if-not-is_powered.false) (omega arith);
-      written = λ e. let z : ◌≡◌ {A = ℕ} 0 1 = cc in absurd (omega arith);
-      agrees = λ says. says;
-    }
-
-pub returns-in-Ok : goal.returns-in-Ok
-returns-in-Ok g c =
-    let self = c.args.self.now in
-    let a = append_done (g.P.PageStore.model self.pages) (sym c.is_powered.ensures ∙ c.if-not-is_powered.false)
-    (g.P.PageStore.sound self.pages) self.len self.last c.args.bytes.now (record { size = c.told-bytes; small = c.fits-bytes })
-    c.length-len.result c.length-len.ensures (omega arith) c.put.result (g.P.PageStore.model c.put.new.pages) c.put.ensures c.in-Ok.is in
-    record { appended = a.0; written = λ _. a.1; agrees = a.2 }
-
-pub returns-in-Err : goal.returns-in-Err
-returns-in-Err g c =
-    let self = c.args.self.now in
-    let a = append_lost_power (g.P.PageStore.model self.pages) (sym c.is_powered.ensures ∙ c.if-not-is_powered.false)
-    (g.P.PageStore.sound self.pages) self.len self.last c.args.bytes.now (record { size = c.told-bytes; small = c.fits-bytes })
-    c.length-len.result c.length-len.ensures (omega arith) c.put.result (g.P.PageStore.model c.put.new.pages) c.put.ensures
-    c.in-Err.field-0 c.in-Err.is in
-    record { appended = a.0; written = λ e. let z : ◌≡◌ {A = ℕ} 0 1 = cc in absurd (omega arith); agrees = a.1 }
+    let m = g.P.PageStore.model self.pages in
+    let on : m.powered ≡ true = search rules in
+    let lost : c.map_err.result ≡ slot_fault c.put.result (self.len + 1) = search rules in
+    let whole : Bytes 60 c.args.bytes.now = record { size = c.told-bytes; small = c.fits-bytes } in
+    rw lost (record {
+      appended = slot_appended m on (g.P.PageStore.sound self.pages) self.len self.last c.args.bytes.now whole
+          (omega arith) self.agrees c.put.result (g.P.PageStore.model c.put.new.pages) c.put.ensures;
+      written = slot_written m on (g.P.PageStore.sound self.pages) self.len self.last c.args.bytes.now whole
+          (omega arith) self.agrees c.put.result (g.P.PageStore.model c.put.new.pages) c.put.ensures;
+    })

@@ -1,17 +1,22 @@
-use Rattle.std.proofs.Common.{sym, refl, ◌∙◌, arith}
+use Rattle.std.proofs.Common.{◌≡◌, suc, ◌/◌, true, Ok, refl, rules, arith}
 use Rattle.device.specs.LogStores.{SlotRead}
 use Rattle.paged_log.proofs.PagedLogModel.{slots_size, read_slot, read_page}
 use Rattle.paged_log.proofs.store.PagedLogLogStore.read.Goals as goal
 
-pub returns-then-slot-length : goal.returns-then-slot-length
-returns-then-slot-length g c =
+pub returns-then-n-self : goal.returns-then-n-self
+returns-then-n-self g c =
     let self = c.args.self.now in
-    let n = slots_size (g.P.PageStore.model self.pages) self.len self.last in
-    SlotRead.outside (sym c.is_powered.ensures ∙ c.if-not-is_powered.false) (omega arith) refl
+    let size = slots_size (g.P.PageStore.model self.pages) self.len self.last in
+    let on : (g.P.PageStore.model self.pages).powered ≡ true = search rules in
+    let next : c.args.slot ≡ suc c.in_ok-n.n = grind arith in
+    SlotRead.outside on (omega arith) refl
 
-pub returns-in-Ok : goal.returns-in-Ok
-returns-in-Ok g c =
+pub returns : goal.returns
+returns g c =
     let self = c.args.self.now in
     let m = g.P.PageStore.model self.pages in
-    read_slot m self.len self.last (sym c.is_powered.ensures ∙ c.if-not-is_powered.false) c.args.slot c.in-Ok.bytes c.slot.result
-    (omega arith) (omega arith) (read_page m _ c.read.result c.in-Ok.bytes c.read.ensures c.in-Ok.is) c.slot.ensures
+    let on : (g.P.PageStore.model self.pages).powered ≡ true = search rules in
+    let next : c.args.slot ≡ suc c.in_ok-n.n = grind arith in
+    let was : c.read.result ≡ Ok c.in_ok-bytes.bytes = search rules in
+    rw next (read_slot m self.len self.last on c.in_ok-n.n c.in_ok-bytes.bytes c.slot.result (omega arith)
+    (read_page m (c.in_ok-n.n / 4) c.read.result c.in_ok-bytes.bytes c.read.ensures was) c.slot.ensures)
