@@ -1,6 +1,8 @@
 -- The count of battery memory's writes or forces comes to the number that was set, once.
-use Rattle.std.proofs.Common.{◌≡◌, ℕ, zero, suc, min, false, cond, Option, Some, None, ◌∙◌, ap, eqb, refl, arith}
+use Rattle.std.proofs.Common.{◌≡◌, ℕ, zero, suc, min, ◌≤◌, false, cond, Option, Some, None, ◌∙◌, ap, eqb, refl, arith}
 use Rattle.std.proofs.lemmas.Bool.Decides.{nat_tests}
+use Rattle.std.proofs.lemmas.Bool.{cond_both}
+use Rattle.std.specs.Prelude.{◌==◌}
 use Rattle.battery.specs.declared.PowerCut.{PowerCut}
 use Rattle.battery.specs.Batteries.{cut_at, cuts_now, next_cut, cut_after, LostIn, LostOnce, standing}
 
@@ -30,3 +32,8 @@ lost_once (Some c) n = lost_at (suc c.after) c.stands n
 pub all_stand : (c : Option PowerCut) (new : ℕ) → cuts_now c ≡ false → standing c new ≡ new
 all_stand None new e = refl
 all_stand (Some c) new e = ap (λ b. cond b (min new c.stands) new) e
+
+-- no more stands than is new
+pub stand_few : (c : Option PowerCut) (new : ℕ) → standing c new ≤ new
+stand_few None new = omega arith
+stand_few (Some c) new = cond_both (c.after == 0) (min new c.stands) new (λ k. k ≤ new) (λ e. omega arith) (λ e. omega arith)

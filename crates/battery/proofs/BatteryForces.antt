@@ -1,14 +1,14 @@
 -- Slots appended to battery memory and forced there: what that makes of the model, and that power is lost where it was set.
-use Rattle.std.proofs.Common.{◌≡◌, ℕ, ◌+◌, ◌-◌, ◌<◌, min, Bool, true, false, cond, List, length, set, Ok, Err, Result, inl, inr, sym, refl, ap, ◌∙◌, arith, length-set}
+use Rattle.std.proofs.Common.{◌≡◌, ℕ, ◌+◌, ◌-◌, ◌<◌, ◌≤◌, min, Bool, true, false, cond, List, length, set, Ok, Err, Result, inl, inr, sym, refl, ap, ◌∙◌, arith, length-set}
 use Rattle.std.proofs.lemmas.Bool.{cases_Bool}
 use Rattle.device.specs.declared.log_store.LogFault.{LogFault}
 use Rattle.device.specs.declared.log_store.LogFault.TheVariants.{PowerLost}
 use Rattle.device.specs.Memory.{as_bytes}
 use Rattle.device.specs.LogStores.{LogModel, SlotAppended, LogForced, powered_on}
-use Rattle.battery.specs.Batteries.{Held, room, in_use, now_forced, cuts_now, standing, forced_on, appended, cut_back}
+use Rattle.battery.specs.Batteries.{Held, room, cuts_now, standing, forced_on, appended, cut_back}
 use Rattle.battery.specs.BatteryStores.{rows, most_slots, log_model}
 use Rattle.battery.specs.BatterySound.{length_rows}
-use Rattle.battery.proofs.BatteryCuts.{all_stand}
+use Rattle.battery.proofs.BatteryCuts.{all_stand, stand_few}
 use Rattle.battery.proofs.BatteryRows.{rows_appended, rows_cut_back}
 
 abbrev log : ℕ → List (List ℕ) → ℕ → Bool → LogModel
@@ -19,23 +19,20 @@ log_is : {c c' : ℕ} {s s' : List (List ℕ)} {f f' : ℕ} {p p' : Bool} → c 
 log_is ec es ef ep = cc
 
 pub slot_appended : (before after : Held (List ℕ) most_slots) (x : List ℕ) → as_bytes 60 x ≡ x → before.powered ≡ true
-    → in_use before < room before → after ≡ appended x before
-    → SlotAppended (log_model before) x (Ok tt) (log_model after)
-slot_appended before after x is on fits did =
-    let e = length_rows 60 before in
-    let k = in_use before in
-    let same : min (length (set before.cells k x)) most_slots ≡ room before = simp length-set refl in
-    let count : min (now_forced before) (min (k + 1) (min (length (set before.cells k x)) most_slots)) ≡ now_forced before = simp length-set (omega arith) in
-    SlotAppended.done on (omega arith) (now_forced before) (omega arith) (omega arith) refl
-    (ap log_model did ∙ log_is same (rows_appended 60 before x is fits) count on)
+    → before.forced ≤ before.used → before.used < room before → after ≡ appended x before → SlotAppended (log_model before) x (Ok tt) (log_model after)
+slot_appended before after x is on in_used fits did =
+    let e = length_rows 60 before (omega arith) in
+    let same : min (length (set before.cells before.used x)) most_slots ≡ room before = simp length-set refl in
+    SlotAppended.done on (omega arith) before.forced (omega arith) (omega arith) refl (ap log_model did ∙ log_is same (rows_appended 60 before x is fits) refl on)
 
-module _ (before after : Held (List ℕ) most_slots) (on : before.powered ≡ true) (did : after ≡ forced_on before) where
+module _ (before after : Held (List ℕ) most_slots) (on : before.powered ≡ true) (in_room : before.used ≤ room before) (in_used : before.forced ≤ before.used)
+    (did : after ≡ forced_on before) where
   -- how many of the new slots stand
   stand : ℕ
-  stand = standing before.cut (in_use before - now_forced before)
+  stand = standing before.cut (before.used - before.forced)
 
   abbrev left : ℕ → Bool → LogModel
-  left new lost = log (room before) (rows 60 before) (min (now_forced before + new) (in_use before)) (cond lost false before.powered)
+  left new lost = log (room before) (rows 60 before) (before.forced + new) (cond lost false before.powered)
 
   by_cut : (b : Bool) → cuts_now before.cut ≡ b → log_model after ≡ left stand b
   unfolding stand
@@ -44,22 +41,21 @@ module _ (before after : Held (List ℕ) most_slots) (on : before.powered ≡ tr
   powered_after : (b : Bool) → cuts_now before.cut ≡ b → after.powered ≡ cond b false true
   powered_after b e = ap (λ h. h.powered) did ∙ ap (λ b. cond b false before.powered) e ∙ ap (cond b false) on
 
-  pub forced_or_lost : (n : ℕ) → n ≡ in_use before → (r : Result (Unit {0}) LogFault) → r ≡ cond after.powered (Ok tt) (Err (PowerLost n))
+  pub forced_or_lost : (n : ℕ) → n ≡ before.used → (r : Result (Unit {0}) LogFault) → r ≡ cond after.powered (Ok tt) (Err (PowerLost n))
       → LogForced (log_model before) r (log_model after)
   unfolding stand
   forced_or_lost n is r says =
-      let e = length_rows 60 before in
+      let e = length_rows 60 before in_room in
+      let few = stand_few before.cut (before.used - before.forced) in
       let went : (b : Bool) → cuts_now before.cut ≡ b → r ≡ cond (cond b false true) (Ok tt) (Err (PowerLost n)) =
       λ b cut. says ∙ ap (λ p. cond p (Ok tt) (Err (PowerLost n))) (powered_after b cut) in
       elim (cases_Bool (cuts_now before.cut)) [
-        | inl cut ↦ LogForced.lost on (min (now_forced before + stand) (in_use before)) (omega arith) (omega arith)
+        | inl cut ↦ LogForced.lost on (before.forced + stand) (omega arith) (omega arith)
             (went true cut ∙ ap (λ k. Err (PowerLost k)) (is ∙ sym e)) (by_cut true cut)
-        | inr no_cut ↦ let none_lost = all_stand before.cut (in_use before - now_forced before) no_cut in
-            let all : min (now_forced before + stand) (in_use before) ≡ length (rows 60 before) = omega arith in
+        | inr no_cut ↦ let none_lost = all_stand before.cut (before.used - before.forced) no_cut in
+            let all : before.forced + stand ≡ length (rows 60 before) = omega arith in
             LogForced.done on (went false no_cut) (by_cut false no_cut ∙ log_is refl refl all on)
       ]
 
-pub log_cut_back : (before after : Held (List ℕ) most_slots) → after ≡ cut_back before → log_model after ≡ powered_on (log_model before)
-log_cut_back before after did =
-    let count : min (now_forced before) (min (now_forced before) (room before)) ≡ now_forced before = omega arith in
-    ap log_model did ∙ log_is refl (rows_cut_back 60 before) count refl
+pub log_cut_back : (before after : Held (List ℕ) most_slots) → before.forced ≤ before.used → after ≡ cut_back before → log_model after ≡ powered_on (log_model before)
+log_cut_back before after in_used did = ap log_model did ∙ log_is refl (rows_cut_back 60 before in_used) refl refl

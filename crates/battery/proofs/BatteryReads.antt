@@ -8,7 +8,7 @@ use Rattle.device.specs.PageStores.{PageModel, PageRead}
 use Rattle.device.specs.LogStores.{LogModel, SlotRead}
 use Rattle.device.specs.declared.page_store.PageFault.TheVariants as page
 use Rattle.device.specs.declared.log_store.LogFault.TheVariants as slot
-use Rattle.battery.specs.Batteries.{Held, in_use}
+use Rattle.battery.specs.Batteries.{Held}
 use Rattle.battery.specs.BatteryStores.{rows}
 
 none_past : {X : Type 0} (xs : List X) (i : ℕ) → None ≡ slice_get xs i → length xs ≤ i
@@ -20,9 +20,9 @@ same_row : (n : ℕ) (o : Option (List ℕ)) → ((x : List ℕ) → o ≡ Some 
 same_row n None whole = refl
 same_row n (Some x) whole = ap Some (sym (whole x refl))
 
-pub row_got : {most : ℕ} (n : ℕ) (h : Held (List ℕ) most) (at : ℕ) (o : Option (List ℕ)) → o ≡ slice_get (take (in_use h) h.cells) at
+pub row_got : {most : ℕ} (n : ℕ) (h : Held (List ℕ) most) (at : ℕ) (o : Option (List ℕ)) → o ≡ slice_get (take h.used h.cells) at
     → ((x : List ℕ) → o ≡ Some x → as_bytes n x ≡ x) → o ≡ slice_get (rows n h) at
-row_got n h at o e whole = same_row n o whole ∙ ap (option_map (as_bytes n)) e ∙ sym (slice_get-map (as_bytes n) (take (in_use h) h.cells) at)
+row_got n h at o e whole = same_row n o whole ∙ ap (option_map (as_bytes n)) e ∙ sym (slice_get-map (as_bytes n) (take h.used h.cells) at)
 
 pub page_read : (m : PageModel) (at : ℕ) (o : Option (List ℕ)) → m.powered ≡ true → o ≡ slice_get m.pages at → PageRead m at (ok_or o page.Outside)
 page_read m at None on e = PageRead.outside on (none_past m.pages at e) refl

@@ -1,11 +1,11 @@
 -- A page written in battery memory: what the write makes of the model, and that power is lost where it was set.
-use Rattle.std.proofs.Common.{◌≡◌, ℕ, ◌<◌, min, Bool, true, false, cond, eqb, ltb, List, None, length, set, Ok, Err, Result, sym, refl, inl, inr, ap, ◌∙◌, arith, MatchResult}
+use Rattle.std.proofs.Common.{◌≡◌, ℕ, ◌<◌, ◌≤◌, min, Bool, true, false, cond, eqb, ltb, List, None, length, set, Ok, Err, Result, sym, refl, inl, inr, ap, ◌∙◌, arith, MatchResult}
 use Rattle.std.proofs.lemmas.Bool.{cases_Bool, true≢false, lt-ltb, le-ltb}
 use Rattle.device.specs.declared.page_store.PageFault.{PageFault}
 use Rattle.device.specs.declared.page_store.PageFault.TheVariants.{PowerLost, Outside}
 use Rattle.device.specs.Memory.{as_bytes}
 use Rattle.device.specs.PageStores.{PageModel, PageWritten}
-use Rattle.battery.specs.Batteries.{Held, made, in_use, cuts_now, next_cut, standing, written}
+use Rattle.battery.specs.Batteries.{Held, made, room, cuts_now, next_cut, standing, written}
 use Rattle.battery.specs.BatteryStores.{most_pages, pages_model, BatteryWrote}
 use Rattle.battery.specs.BatterySound.{length_rows}
 use Rattle.battery.proofs.BatteryCuts.{all_stand}
@@ -18,12 +18,12 @@ left h at x old lost = pages_model (record h { cells = cond old h.cells (set h.c
 left_new : (h : Held (List ℕ) most_pages) (at : ℕ) (x : List ℕ) (lost : Bool) → as_bytes 256 x ≡ x
     → left h at x false lost ≡ record { pages = set (pages_model h).pages at x; powered = cond lost false h.powered }
 left_new h at x lost is =
-    ap (λ l. let m : PageModel = record { pages = l; powered = cond lost false h.powered } in m) (rows_set 256 most_pages h.used h.cells at x is)
+    ap (λ l. let m : PageModel = record { pages = l; powered = cond lost false h.powered } in m) (rows_set 256 h.used h.cells at x is)
 
 module _ (before after : Held (List ℕ) most_pages) (at : ℕ) (x : List ℕ) (is : as_bytes 256 x ≡ x) (on : before.powered ≡ true)
-    (inside : at < in_use before) (wrote : after ≡ written at x before) where
+    (in_room : before.used ≤ room before) (inside : at < before.used) (wrote : after ≡ written at x before) where
   inside_model : at < length (pages_model before).pages
-  inside_model = let e = length_rows 256 before in omega arith
+  inside_model = let e = length_rows 256 before in_room in omega arith
 
   by_cut : (b : Bool) → cuts_now before.cut ≡ b → pages_model after ≡ left before at x (eqb (standing before.cut 1) 0) b
   by_cut b e = ap pages_model wrote ∙ ap (left before at x (eqb (standing before.cut 1) 0)) e
@@ -44,17 +44,17 @@ module _ (before after : Held (List ℕ) most_pages) (at : ℕ) (x : List ℕ) (
 
 -- With power that is never lost the page is written if it is there, and the owner has the memory back with the page in it, or as it was.
 pub owner_told : (loan : ℕ) (memory : List (List ℕ)) (at : ℕ) (x : List ℕ) (r : Result (Unit {0}) PageFault) (before after : Held (List ℕ) most_pages)
-    → before ≡ made loan memory (length memory) (None) → BatteryWrote before at x r after
+    → before ≡ made loan memory (min (length memory) most_pages) None → BatteryWrote before at x r after
     → r ≡ cond (ltb at (min (length memory) most_pages)) (Ok tt) (Err Outside)
 owner_told loan memory at x r before after m (BatteryWrote.no_power off e same) = absurd (true≢false (sym (ap (λ h. h.powered) m) ∙ off))
 owner_told loan memory at x r before after m (BatteryWrote.outside on out e same) =
-    let size = ap (in_use) m in let no : ltb at (min (length memory) most_pages) ≡ false = le-ltb _ _ (omega arith) in cc
+    let size = ap (λ h. h.used) m in let no : ltb at (min (length memory) most_pages) ≡ false = le-ltb _ _ (omega arith) in cc
 owner_told loan memory at x r before after m (BatteryWrote.done on inside no_cut e wrote) =
-    let size = ap (in_use) m in let yes : ltb at (min (length memory) most_pages) ≡ true = lt-ltb _ _ (omega arith) in cc
+    let size = ap (λ h. h.used) m in let yes : ltb at (min (length memory) most_pages) ≡ true = lt-ltb _ _ (omega arith) in cc
 owner_told loan memory at x r before after m (BatteryWrote.lost on inside cut e wrote) = absurd (true≢false (sym cut ∙ ap (λ h. cuts_now h.cut) m))
 
 pub owner_has : (loan : ℕ) (memory : List (List ℕ)) (at : ℕ) (x : List ℕ) (r : Result (Unit {0}) PageFault) (before after : Held (List ℕ) most_pages) {ys : List (List ℕ)}
-    → before ≡ made loan memory (length memory) (None) → BatteryWrote before at x r after → ys ≡ after.cells
+    → before ≡ made loan memory (min (length memory) most_pages) None → BatteryWrote before at x r after → ys ≡ after.cells
     → MatchResult r (λ _. ys ≡ set memory at x) (λ _. ys ≡ memory)
 owner_has loan memory at x r before after m (BatteryWrote.no_power off e same) back = absurd (true≢false (sym (ap (λ h. h.powered) m) ∙ off))
 owner_has loan memory at x r before after m (BatteryWrote.outside on out e same) back = rw e (back ∙ ap (λ h. h.cells) (same ∙ m))

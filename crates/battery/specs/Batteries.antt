@@ -24,12 +24,6 @@ made loan cells used cut = record { loan = loan; cells = cells; used = used; for
 abbrev pub room : {E : Type 0} {most : ℕ} → Held E most → ℕ
 room {most = most} h = min (length h.cells) most
 
-abbrev pub in_use : {E : Type 0} {most : ℕ} → Held E most → ℕ
-in_use h = min h.used (room h)
-
-abbrev pub now_forced : {E : Type 0} {most : ℕ} → Held E most → ℕ
-now_forced h = min h.forced (in_use h)
-
 -- power is lost in the write or force of this number, counted from 1, and at 0 in none
 abbrev pub cut_at : ℕ → ℕ → Option PowerCut
 cut_at zero stands = None
@@ -78,11 +72,11 @@ written at element h = counted h (cond (standing h.cut 1 == 0) h.cells (slice_se
 
 -- a force brings the elements in use that are not forced yet
 abbrev pub forced_on : {E : Type 0} {most : ℕ} → Held E most → Held E most
-forced_on h = counted h h.cells (now_forced h + standing h.cut (in_use h - now_forced h))
+forced_on h = counted h h.cells (h.forced + standing h.cut (h.used - h.forced))
 
 -- an append is not counted, and forces nothing
 abbrev pub appended : {E : Type 0} {most : ℕ} → E → Held E most → Held E most
-appended element h = record h { cells = slice_set h.cells (in_use h) element; used = in_use h + 1; forced = now_forced h }
+appended element h = record h { cells = slice_set h.cells h.used element; used = h.used + 1 }
 
 -- power comes back; the cut to come stays
 abbrev pub on_again : {E : Type 0} {most : ℕ} → Held E most → Held E most
@@ -90,4 +84,4 @@ on_again h = record h { powered = true }
 
 -- and only the forced elements are in use
 abbrev pub cut_back : {E : Type 0} {most : ℕ} → Held E most → Held E most
-cut_back h = record h { used = now_forced h; forced = now_forced h; powered = true }
+cut_back h = record h { used = h.forced; powered = true }

@@ -1,11 +1,11 @@
--- Battery memory is a sound page store and a sound log store, whatever its struct holds. Assumes nothing.
-use Rattle.std.specs.Prelude.{◌≡◌, ℕ, zero, suc, ◌<◌, List, [], ◌∷◌, map, length, take, slice_index_or, refl}
+-- Battery memory is a sound page store and a sound log store, whatever its cells hold. Assumes nothing.
+use Rattle.std.specs.Prelude.{◌≡◌, ℕ, zero, suc, ◌<◌, ◌≤◌, List, [], ◌∷◌, map, length, take, slice_index_or, refl}
 use Rattle.std.proofs.Common.{ap, arith, length-take}
 use Rattle.format.specs.Bytes.{Bytes}
 use Rattle.device.specs.Memory.{as_bytes, as_bytes_size, as_bytes_small}
 use Rattle.device.specs.PageStores.{SoundPages}
 use Rattle.device.specs.LogStores.{SoundLog}
-use Rattle.battery.specs.Batteries.{Held, in_use}
+use Rattle.battery.specs.Batteries.{Held, room}
 use Rattle.battery.specs.BatteryStores.{most_pages, most_slots, rows, pages_model, log_model}
 
 pub each_row : (n : ℕ) (xs : List (List ℕ)) (i : ℕ) → i < length (map (as_bytes n) xs) → Bytes n (slice_index_or (map (as_bytes n) xs) i [])
@@ -17,19 +17,16 @@ pub as_many_rows : (n : ℕ) (xs : List (List ℕ)) → length (map (as_bytes n)
 as_many_rows n [] = refl
 as_many_rows n (x ∷ xs) = ap suc (as_many_rows n xs)
 
-pub length_rows : {most : ℕ} (n : ℕ) (h : Held (List ℕ) most) → length (rows n h) ≡ in_use h
-length_rows n h = let m = as_many_rows n (take (in_use h) h.cells) in let t = length-take (in_use h) h.cells in omega arith
+pub length_rows : {most : ℕ} (n : ℕ) (h : Held (List ℕ) most) → h.used ≤ room h → length (rows n h) ≡ h.used
+length_rows n h in_room = let m = as_many_rows n (take h.used h.cells) in let t = length-take h.used h.cells in omega arith
 
-pub sound_pages : (h : Held (List ℕ) most_pages) → SoundPages (pages_model h)
-sound_pages h = record {
-  few = let e = length_rows 256 h in omega arith;
-  each = each_row 256 (take (in_use h) h.cells);
-}
+pub sound_pages : (h : Held (List ℕ) most_pages) → h.used ≤ room h → SoundPages (pages_model h)
+sound_pages h in_room = record { few = let e = length_rows 256 h in_room in omega arith; each = each_row 256 (take h.used h.cells) }
 
-pub sound_log : (h : Held (List ℕ) most_slots) → SoundLog (log_model h)
-sound_log h = let e = length_rows 60 h in record {
+pub sound_log : (h : Held (List ℕ) most_slots) → h.used ≤ room h → h.forced ≤ h.used → SoundLog (log_model h)
+sound_log h in_room in_used = let e = length_rows 60 h in_room in record {
   held = omega arith;
   room = omega arith;
   numbers = omega arith;
-  each = each_row 60 (take (in_use h) h.cells);
+  each = each_row 60 (take h.used h.cells);
 }

@@ -7,7 +7,7 @@ use Rattle.device.specs.declared.log_store.LogFault.TheVariants as slot
 use Rattle.device.specs.Memory.{as_bytes}
 use Rattle.device.specs.PageStores.{PageModel}
 use Rattle.device.specs.LogStores.{LogModel}
-use Rattle.battery.specs.Batteries.{Held, room, in_use, now_forced, cuts_now, written, forced_on, appended}
+use Rattle.battery.specs.Batteries.{Held, room, cuts_now, written, forced_on, appended}
 
 abbrev pub most_pages : ℕ
 most_pages = 65536
@@ -18,22 +18,22 @@ most_slots = 4294967294
 
 -- the rows of n bytes in use
 abbrev pub rows : {most : ℕ} → ℕ → Held (List ℕ) most → List (List ℕ)
-rows n h = map (as_bytes n) (take (in_use h) h.cells)
+rows n h = map (as_bytes n) (take h.used h.cells)
 
 abbrev pub pages_model : Held (List ℕ) most_pages → PageModel
 pages_model h = record { pages = rows 256 h; powered = h.powered }
 
 abbrev pub log_model : Held (List ℕ) most_slots → LogModel
-log_model h = record { capacity = room h; slots = rows 60 h; forced = now_forced h; powered = h.powered }
+log_model h = record { capacity = room h; slots = rows 60 h; forced = h.forced; powered = h.powered }
 
 -- A write loses power if it is the one that was set, with the page old or new as set, and else never.
 -- One that finds no power or no such page alters nothing and is not counted.
 pub data BatteryWrote (before : Held (List ℕ) most_pages) (at : ℕ) (bytes : List ℕ) (r : Result (Unit {0}) PageFault) (after : Held (List ℕ) most_pages) : Type 0 where
   no_power : before.powered ≡ false → r ≡ Err (page.PowerLost at) → after ≡ before → BatteryWrote before at bytes r after
-  outside : before.powered ≡ true → in_use before ≤ at → r ≡ Err page.Outside → after ≡ before → BatteryWrote before at bytes r after
-  done : before.powered ≡ true → at < in_use before → cuts_now before.cut ≡ false
+  outside : before.powered ≡ true → before.used ≤ at → r ≡ Err page.Outside → after ≡ before → BatteryWrote before at bytes r after
+  done : before.powered ≡ true → at < before.used → cuts_now before.cut ≡ false
       → r ≡ Ok tt → after ≡ written at bytes before → BatteryWrote before at bytes r after
-  lost : before.powered ≡ true → at < in_use before → cuts_now before.cut ≡ true
+  lost : before.powered ≡ true → at < before.used → cuts_now before.cut ≡ true
       → r ≡ Err (page.PowerLost at) → after ≡ written at bytes before → BatteryWrote before at bytes r after
 
 -- an append never loses power and forces nothing
@@ -43,7 +43,7 @@ pub data BatteryAppended (before : Held (List ℕ) most_slots) (bytes : List ℕ
 
 -- a force loses power if it is the one that was set, with as many new slots forced as set, and else never
 pub data BatteryForced (before : Held (List ℕ) most_slots) (r : Result (Unit {0}) LogFault) (after : Held (List ℕ) most_slots) : Type 0 where
-  no_power : before.powered ≡ false → r ≡ Err (slot.PowerLost (in_use before)) → after ≡ before → BatteryForced before r after
+  no_power : before.powered ≡ false → r ≡ Err (slot.PowerLost before.used) → after ≡ before → BatteryForced before r after
   done : before.powered ≡ true → cuts_now before.cut ≡ false → r ≡ Ok tt → after ≡ forced_on before → BatteryForced before r after
-  lost : before.powered ≡ true → cuts_now before.cut ≡ true → r ≡ Err (slot.PowerLost (in_use before))
+  lost : before.powered ≡ true → cuts_now before.cut ≡ true → r ≡ Err (slot.PowerLost before.used)
       → after ≡ forced_on before → BatteryForced before r after

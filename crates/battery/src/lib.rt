@@ -1,8 +1,7 @@
 // Battery memory: a store in memory that its owner lends, whose power is lost at most once, where its maker sets it.
 #![tactic(auto)]
 
-ghost use Rattle.std.specs.Prelude.{◌≡◌, ◌<◌, ◌==◌, if◌then◌else◌, Ok, Err, length, take, slice_get};
-ghost use Rattle.battery.specs.Batteries.{cut_at, LostIn, held, made, room, in_use, now_forced, standing, counted, written, forced_on, appended, on_again, cut_back};
+ghost use Rattle.std.specs.Prelude.{◌≡◌, ◌<◌, ◌≤◌, ◌==◌, min, if◌then◌else◌, Ok, Err, length, take, slice_get};
 
 mod owners;
 mod pages;
@@ -20,19 +19,23 @@ pub struct PowerCut {
     pub stands: u32,
 }
 
-// Of the cells so many are in use, and of those so many stand when power is lost. Of a page store all are.
-// There are `MOST` elements at most, where the numbers of a store end.
+// Of the cells so many are in use, and of those so many stand when power is lost. Of a page store all that have a number are.
+// No more than `MOST` have one.
 #[derive(Drop)]
 pub struct Battery<'a, E, const MOST: usize> {
     cells: &'a mut [E],
     used: usize,
     forced: usize,
+    ghost in_room: { used ≤ min (length cells.now) MOST },
+    ghost in_used: { forced ≤ used },
     powered: bool,
     // The loss of power to come, if any.
     cut: Option<PowerCut>,
 }
 
 impl PowerCut {
+    ghost use Rattle.battery.specs.Batteries.{cut_at, LostIn};
+
     // Power is lost in the write or force of this number, counted from 1; at 0 in none.
     pub fn at(number: u64, stands: u32) -> Option<PowerCut>
         ensures value { result ≡ cut_at number stands }
@@ -44,8 +47,11 @@ impl PowerCut {
 }
 
 impl<'a, E, const MOST: usize> Battery<'a, E, MOST> {
+    ghost use Rattle.battery.specs.Batteries.{held, made};
+
     // What is in use at the making stands.
     fn new(cells: &'a mut [E], used: usize, cut: Option<PowerCut>) -> Battery<'a, E, MOST>
+        requires { used ≤ min (length cells.old) MOST }
         ensures { held result ≡ made cells.entry.ghost_name cells.old used cut }
     {
         Battery {
@@ -60,22 +66,12 @@ impl<'a, E, const MOST: usize> Battery<'a, E, MOST> {
 
 // No operation looks at more than the element that it touches.
 impl<E: Copy, const MOST: usize> Battery<'_, E, MOST> {
+    ghost use Rattle.battery.specs.Batteries.{held, room, standing, counted, written, forced_on, appended, on_again, cut_back};
+
     fn room(&self) -> usize
         ensures { result ≡ room (held self.now) }
     {
         self.cells.len().min(MOST)
-    }
-
-    fn in_use(&self) -> usize
-        ensures { result ≡ in_use (held self.now) }
-    {
-        self.used.min(self.room())
-    }
-
-    fn now_forced(&self) -> usize
-        ensures { result ≡ now_forced (held self.now) }
-    {
-        self.forced.min(self.in_use())
     }
 
     fn check_power<F: Copy>(&self, lost: F) -> Result<(), F>
@@ -85,9 +81,9 @@ impl<E: Copy, const MOST: usize> Battery<'_, E, MOST> {
     }
 
     fn get(&self, place: usize) -> Option<E>
-        ensures { result ≡ slice_get (take (in_use (held self.now)) self.now.cells.now) place }
+        ensures { result ≡ slice_get (take self.now.used self.now.cells.now) place }
     {
-        self.cells[..self.in_use()].get(place).copied()
+        self.cells[..self.used].get(place).copied()
     }
 
     fn write_one(&mut self, place: usize, element: &E)
@@ -100,30 +96,25 @@ impl<E: Copy, const MOST: usize> Battery<'_, E, MOST> {
     }
 
     fn append_one(&mut self, element: &E)
-        requires { in_use (held self.old) < room (held self.old) }
+        requires { self.old.used < room (held self.old) }
         ensures { held self.new ≡ appended element.now (held self.old) }
     {
-        let place = self.in_use();
-        self.forced = self.now_forced();
-        self.cells[place] = *element;
-        self.used = place + 1;
+        self.cells[self.used] = *element;
+        self.used += 1;
     }
 
     fn force_used(&mut self)
         ensures { held self.new ≡ forced_on (held self.old) }
     {
-        let used = self.in_use();
-        let forced = self.now_forced();
-        self.forced = forced + self.count(used - forced);
+        let new = self.used - self.forced;
+        self.forced += self.count(new);
     }
 
     // Power comes back, and only the forced elements are in use.
     fn cut_back(&mut self)
         ensures { held self.new ≡ cut_back (held self.old) }
     {
-        let forced = self.now_forced();
-        self.used = forced;
-        self.forced = forced;
+        self.used = self.forced;
         self.turn_on();
     }
 
@@ -136,6 +127,7 @@ impl<E: Copy, const MOST: usize> Battery<'_, E, MOST> {
     // Counts a write or a force that brings new elements, with the loss of power in the set one; answers how many of them stand.
     fn count(&mut self, new: usize) -> usize
         ensures stand { result ≡ standing self.old.cut new }
+        ensures few { result ≤ new }
         ensures held { held self.new ≡ counted (held self.old) self.old.cells.now self.old.forced }
     {
         let Some(cut) = self.cut else {

@@ -1,5 +1,5 @@
 // Battery memory as a page store.
-ghost use Rattle.std.specs.Prelude.{◌≡◌, true, map, length, take};
+ghost use Rattle.std.specs.Prelude.{◌≡◌, min, true, map, length, take};
 ghost use Rattle.device.specs.Memory.{as_bytes};
 ghost use Rattle.device.specs.PageStores.{PageRead, PageWritten, powered_on};
 ghost use Rattle.battery.specs.Batteries.{held, made, LostOnce, on_again};
@@ -17,22 +17,22 @@ pub type BatteryPages<'a> = Battery<'a, [u8; 256], MOST_PAGES>;
 // The pages are as found in the memory, of which there may be 65,536.
 pub fn battery_pages<'a>(memory: &'a mut [[u8; 256]], cut: Option<PowerCut>) -> BatteryPages<'a>
     ensures pages { pages_model (held result) ≡ record { pages = map (as_bytes 256) (take most_pages memory.old); powered = true } }
-    ensures rule { held result ≡ made memory.entry.ghost_name memory.old (length memory.old) cut }
+    ensures rule { held result ≡ made memory.entry.ghost_name memory.old (min (length memory.old) most_pages) cut }
     ensures once { LostOnce cut }
 {
-    let used = memory.len();
+    let used = memory.len().min(MOST_PAGES);
     Battery::new(memory, used, cut)
 }
 
 impl PageStore for BatteryPages<'_> {
     ghost model = { λ s. pages_model (held s) };
 
-    ghost sound = { λ s. sound_pages (held s) };
+    ghost sound = { λ s. sound_pages (held s) s.in_room };
 
     fn size(&self) -> u32
         ensures { result ≡ length (pages_model (held self.now)).pages }
     {
-        self.in_use() as u32
+        self.used as u32
     }
 
     fn is_powered(&self) -> bool
@@ -55,7 +55,7 @@ impl PageStore for BatteryPages<'_> {
         let lost = PageFault::PowerLost(page);
         self.check_power(lost)?;
         let place = page as usize;
-        if place >= self.in_use() {
+        if place >= self.used {
             return Err(PageFault::Outside);
         }
         self.write_one(place, bytes);

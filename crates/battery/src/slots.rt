@@ -25,7 +25,7 @@ pub fn battery_log<'a>(memory: &'a mut [[u8; 60]], cut: Option<PowerCut>) -> Bat
 impl LogStore for BatteryLog<'_> {
     ghost model = { λ s. log_model (held s) };
 
-    ghost sound = { λ s. sound_log (held s) };
+    ghost sound = { λ s. sound_log (held s) s.in_room s.in_used };
 
     fn capacity(&self) -> u32
         ensures { result ≡ (log_model (held self.now)).capacity }
@@ -43,7 +43,7 @@ impl LogStore for BatteryLog<'_> {
         ensures { LengthRead (log_model (held self.now)) result }
     {
         self.check_power(LogFault::PowerLost(0))?;
-        Ok(self.in_use() as u32)
+        Ok(self.used as u32)
     }
 
     fn read(&self, slot: u32) -> Result<[u8; 60], LogFault>
@@ -58,9 +58,9 @@ impl LogStore for BatteryLog<'_> {
         ensures outcome { SlotAppended (log_model (held self.old)) bytes.now result (log_model (held self.new)) }
         ensures rule { BatteryAppended (held self.old) bytes.now result (held self.new) }
     {
-        let length = self.in_use();
-        self.check_power(LogFault::PowerLost(length as u32 + 1))?;
-        if length >= self.room() {
+        let lost = LogFault::PowerLost(self.used as u32 + 1);
+        self.check_power(lost)?;
+        if self.used >= self.room() {
             return Err(LogFault::Full);
         }
         self.append_one(bytes);
@@ -71,7 +71,7 @@ impl LogStore for BatteryLog<'_> {
         ensures outcome { LogForced (log_model (held self.old)) result (log_model (held self.new)) }
         ensures rule { BatteryForced (held self.old) result (held self.new) }
     {
-        let lost = LogFault::PowerLost(self.in_use() as u32);
+        let lost = LogFault::PowerLost(self.used as u32);
         self.check_power(lost)?;
         self.force_used();
         self.check_power(lost)

@@ -8,4 +8,4 @@ pub returns-clause-outcome : goal.returns-clause-outcome
 returns-clause-outcome c =
     let on : (held c.args.self.now).powered ≡ true = search rules in
     page_wrote (held c.args.self.now) (held c.write_one.new.self) c.args.page c.args.bytes.now
-    (as_bytes_is 256 c.args.bytes.now c.told-bytes c.fits-bytes) on (omega arith) c.write_one.ensures c.check_power-2.result c.check_power-2.ensures
+    (as_bytes_is 256 c.args.bytes.now c.told-bytes c.fits-bytes) on c.args.self.now.in_room (omega arith) c.write_one.ensures c.check_power-2.result c.check_power-2.ensures

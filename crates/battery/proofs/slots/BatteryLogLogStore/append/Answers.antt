@@ -8,4 +8,4 @@ pub returns-clause-outcome : goal.returns-clause-outcome
 returns-clause-outcome c =
     let on : (held c.args.self.now).powered ≡ true = search rules in
     slot_appended (held c.args.self.now) (held c.append_one.new.self) c.args.bytes.now
-    (as_bytes_is 60 c.args.bytes.now c.told-bytes c.fits-bytes) on (omega arith) c.append_one.ensures
+    (as_bytes_is 60 c.args.bytes.now c.told-bytes c.fits-bytes) on c.args.self.now.in_used (omega arith) c.append_one.ensures
