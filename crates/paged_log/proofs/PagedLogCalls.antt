@@ -168,9 +168,6 @@ says_on m m' l l' e f says =
     ap (λ (x : PageModel). log_of x.pages) e ∙ says ∙ sym (take-take l.forced l.forced l.slots (omega arith))
     ∙ sym (ap (λ (x : LogModel). take x.forced x.slots) f)
 
-pub same_room : (m m' : PageModel) → m' ≡ store.powered_on m → room m' ≡ room m
-same_room m m' e = ap room e
-
 module _ (m m' : PageModel) (e : m' ≡ store.powered_on m) (len : ℕ) (last : List ℕ) where
   on_now : (k : ℕ) → paged m' k last ≡ whole_log m.pages k
   on_now k = ap (λ (x : PageModel). paged x k last) e
@@ -178,11 +175,6 @@ module _ (m m' : PageModel) (e : m' ≡ store.powered_on m) (len : ℕ) (last : 
   pub on_already : m.powered ≡ true → paged m' len last ≡ powered_on (paged m len last)
   on_already on = on_now len ∙ sym (ap powered_on (with_power m len last on)
       ∙ ap (λ (l : List (List ℕ)). record { capacity = room m; slots = l; forced = len; powered = true }) (take_first m.pages len len (omega arith)))
-
-  pub on_none : m.powered ≡ false → len ≡ 0 → paged m' len last ≡ powered_on (paged m len last)
-  on_none off none =
-      on_now len ∙ ap (whole_log m.pages) none ∙ sym (ap (λ (k : ℕ). powered_on (paged m k last)) none
-      ∙ ap (λ (x : PageModel). powered_on (paged x 0 last)) (at_this m false off))
 
   -- power was lost in the append of slot k
   module _ (off : m.powered ≡ false) (k : ℕ) (one : len ≡ suc k) where

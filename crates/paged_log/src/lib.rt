@@ -55,6 +55,7 @@ impl<P: PageStore> PagedLog<P> {
     {
         self.pages
     }
+
     // A loss of power is reported at this slot.
     fn check_power(&self, slot: u32) -> Result<(), LogFault>
         ensures { result ≡ (if (P.PageStore.model self.now.pages).powered then Ok tt else Err (LogFault.PowerLost slot)) }
