@@ -1,28 +1,11 @@
 -- Writes of a page, as they make room and put a slot.
-use Rattle.std.proofs.Common.{◌≡◌, ℕ, suc, ◌*◌, ◌/◌, ◌%◌, ◌<◌, ◌≤◌, Bool, true, false, ◌&&◌, eqb, ltb, List, [], length, get_or, set, Ok, Err, Decides, Result, sym, refl, ap, ◌∙◌, subst, ⊎_elim, arith}
-use Rattle.std.specs.Str.{bytes_eq}
-use Rattle.std.proofs.lemmas.List.{set_past, set-get_or}
-use Rattle.std.proofs.lemmas.Slice.Eq.{bytes_eq-Decides}
-use Rattle.std.proofs.lemmas.Bool.Decides.{same_from_decides}
-use Rattle.std.proofs.lemmas.Bool.{cases_Bool, eq-eqb, lt-ltb, le-ltb, both_ways}
+use Rattle.std.proofs.Common.{◌≡◌, ℕ, suc, ◌*◌, ◌/◌, ◌%◌, ◌<◌, Bool, true, eqb, List, [], length, get_or, set, Ok, Err, Result, sym, refl, ap, ◌∙◌, subst, ⊎_elim, arith}
+use Rattle.std.proofs.lemmas.List.{set-get_or}
+use Rattle.std.proofs.lemmas.Bool.{cases_Bool, eq-eqb, both_ways}
 use Rattle.device.specs.declared.page_store.PageFault.{PageFault}
 use Rattle.device.specs.PageStores.{PageModel, PageWritten}
-use Rattle.paged_log.specs.PagedLogs.{count_of, slot_in, slot_at, stands, blank, page_with, room_made, put_slot, at_power, Made, SlotPut}
+use Rattle.paged_log.specs.PagedLogs.{blank, page_with, room_made, put_slot, at_power, Made, SlotPut}
 use Rattle.paged_log.proofs.PagedLogSteps.{room_size}
-
--- whether a slot stands, as the code asks
-pub stands_not : (pages : List (List ℕ)) (n : ℕ) (slot bytes : List ℕ) → bytes ≡ get_or pages (n / 4) [] → count_of bytes ≤ n % 4 → false ≡ stands pages n slot
-stands_not pages n slot bytes e h =
-    ap (λ (t : Bool). t && bytes_eq (slot_at pages n) slot)
-    (sym (subst (λ (page : List ℕ). ltb (n % 4) (count_of page) ≡ false) e (le-ltb (n % 4) (count_of bytes) h)))
-
-pub stands_there : (pages : List (List ℕ)) (n : ℕ) (slot bytes found : List ℕ) (r : Bool) → bytes ≡ get_or pages (n / 4) [] → n % 4 < count_of bytes
-    → found ≡ slot_in bytes (n % 4) → Decides r (found ≡ slot) → r ≡ stands pages n slot
-stands_there pages n slot bytes found r e h f d =
-    same_from_decides r (bytes_eq found slot) d (bytes_eq-Decides found slot)
-    ∙ ap (λ (l : List ℕ). bytes_eq l slot) (f ∙ ap (λ (page : List ℕ). slot_in page (n % 4)) e)
-    ∙ ap (λ (t : Bool). t && bytes_eq (slot_at pages n) slot)
-    (sym (subst (λ (page : List ℕ). ltb (n % 4) (count_of page) ≡ true) e (lt-ltb (n % 4) (count_of bytes) h)))
 
 on : (m : PageModel) → m.powered ≡ true → m ≡ at_power true m.pages
 on m e = ap (λ (t : Bool). record { pages = m.pages; powered = t }) e
@@ -30,10 +13,7 @@ on m e = ap (λ (t : Bool). record { pages = m.pages; powered = t }) e
 no_room : (pages : List (List ℕ)) (n : ℕ) → set pages (suc (n / 4)) blank ≡ pages → room_made pages n ≡ pages
 no_room pages n e = ⊎_elim (λ t. rw t e) (λ t. rw t refl) (cases_Bool (eqb (n % 4) 3))
 
--- the next page is not there, or is blank already
-pub room_past : (m : PageModel) (n : ℕ) → m.powered ≡ true → length m.pages ≤ suc (n / 4) → m ≡ at_power true (room_made m.pages n)
-room_past m n e h = on m e ∙ ap (at_power true) (sym (no_room m.pages n (set_past m.pages (suc (n / 4)) blank h)))
-
+-- the next page is blank already
 pub room_blank : (m : PageModel) (n : ℕ) → m.powered ≡ true → get_or m.pages (suc (n / 4)) [] ≡ blank → m ≡ at_power true (room_made m.pages n)
 room_blank m n e h = on m e ∙ ap (at_power true) (sym (no_room m.pages n
     (ap (set m.pages (suc (n / 4))) (sym h) ∙ set-get_or m.pages (suc (n / 4)) [])))

@@ -1,13 +1,10 @@
 use Rattle.std.proofs.Common.{ℕ, [], get_or, sym, refl, ap, ◌∙◌, add-one, arith}
 use Rattle.std.proofs.lemmas.Slice.Eq.{slice_eq-Decides}
 use Rattle.paged_log.specs.PagedLogs.{Made, blank}
-use Rattle.paged_log.proofs.PagedLogWrites.{room_past, room_blank, wrote_room}
+use Rattle.paged_log.proofs.PagedLogWrites.{room_blank, wrote_room}
 use Rattle.paged_log.proofs.PagedLogModel.{read_page}
 use Rattle.paged_log.proofs.put.make_room.Goals as goal
 use Rattle.std.proofs.lemmas.Bool.Decides.{Decides-eqb}
-
-pub returns-then-next-size : goal.returns-then-next-size
-returns-then-next-size g c = Made.done refl (room_past (g.P.PageStore.model c.args.pages.now) c.args.n c.requires.0 (omega arith))
 
 pub returns-then-eq : goal.returns-then-eq
 returns-then-eq g c =
