@@ -15,10 +15,10 @@ use Rattle.battery.proofs.BatteryRows.{rows_set}
 abbrev left : Held (List ℕ) most_pages → ℕ → List ℕ → Bool → Bool → PageModel
 left h at x old lost = pages_model (record h { cells = cond old h.cells (set h.cells at x); powered = cond lost false h.powered; cut = next_cut h.cut })
 
-left_new : (h : Held (List ℕ) most_pages) (at : ℕ) (x : List ℕ) (lost : Bool) → as_bytes 256 x ≡ x
+left_new : (h : Held (List ℕ) most_pages) (at : ℕ) (x : List ℕ) (lost : Bool) → as_bytes 256 x ≡ x → at < h.used
     → left h at x false lost ≡ record { pages = set (pages_model h).pages at x; powered = cond lost false h.powered }
-left_new h at x lost is =
-    ap (λ l. let m : PageModel = record { pages = l; powered = cond lost false h.powered } in m) (rows_set 256 h.used h.cells at x is)
+left_new h at x lost is inside =
+    ap (λ l. let m : PageModel = record { pages = l; powered = cond lost false h.powered } in m) (rows_set 256 h.used h.cells at x is inside)
 
 module _ (before after : Held (List ℕ) most_pages) (at : ℕ) (x : List ℕ) (is : as_bytes 256 x ≡ x) (on : before.powered ≡ true)
     (in_room : before.used ≤ room before) (inside : at < before.used) (wrote : after ≡ written at x before) where
@@ -33,13 +33,13 @@ module _ (before after : Held (List ℕ) most_pages) (at : ℕ) (x : List ℕ) (
 
   lost_by : (old : Bool) → pages_model after ≡ left before at x old true → PageWritten (pages_model before) at x (Err (PowerLost at)) (pages_model after)
   lost_by true e = PageWritten.lost_old on inside_model refl e
-  lost_by false e = PageWritten.lost_new on inside_model refl (e ∙ left_new before at x true is)
+  lost_by false e = PageWritten.lost_new on inside_model refl (e ∙ left_new before at x true is inside)
 
   pub page_wrote : (r : Result (Unit {0}) PageFault) → r ≡ cond after.powered (Ok tt) (Err (PowerLost at)) → PageWritten (pages_model before) at x r (pages_model after)
   page_wrote r says = elim (cases_Bool (cuts_now before.cut)) [
     | inl cut ↦ rw (says ∙ ap (λ p. cond p (Ok tt) (Err (PowerLost at))) (powered_after true cut)) (lost_by (eqb (standing before.cut 1) 0) (by_cut true cut))
     | inr no_cut ↦ PageWritten.done on inside_model (says ∙ ap (λ p. cond p (Ok tt) (Err (PowerLost at))) (powered_after false no_cut))
-        (by_cut false no_cut ∙ ap (λ k. left before at x (eqb k 0) false) (all_stand before.cut 1 no_cut) ∙ left_new before at x false is)
+        (by_cut false no_cut ∙ ap (λ k. left before at x (eqb k 0) false) (all_stand before.cut 1 no_cut) ∙ left_new before at x false is inside)
   ]
 
 -- With power that is never lost the page is written if it is there, and the owner has the memory back with the page in it, or as it was.

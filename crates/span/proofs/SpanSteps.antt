@@ -1,16 +1,11 @@
 -- What a half does, the span does.
-use Rattle.std.proofs.Common.{◌≡◌, ℕ, zero, suc, ◌+◌, ◌-◌, ◌<◌, ◌≤◌, min, Bool, true, false, ◌&&◌, List, [], ◌∷◌, ◌++◌, length, get_or, take, set, Ok, Err, Result, sym, refl, ap, ◌∙◌, arith}
+use Rattle.std.proofs.Common.{◌≡◌, ℕ, ◌+◌, ◌-◌, ◌<◌, ◌≤◌, min, Bool, true, false, ◌&&◌, List, [], ◌++◌, length, get_or, take, Ok, Err, Result, sym, refl, ap, ◌∙◌, arith}
 use Rattle.std.proofs.lemmas.List.{length-take, length-append, get_or-take, get_or_append_left, get_or-append_right, set-append_left, set-append_right}
+use Rattle.std.proofs.Math.Seq.{take-set-lt}
 use Rattle.std.proofs.lemmas.Bool.{both_ways, and_parts, and_right}
 use Rattle.device.specs.declared.page_store.PageFault.{PageFault}
 use Rattle.device.specs.PageStores.{PageModel, PageRead, PageWritten, with_page, without_power, fault_at}
 use Rattle.span.specs.Spans.{joined}
-
-take_set : {X : Type 0} (n : ℕ) (xs : List X) (i : ℕ) (y : X) → take n (set xs i y) ≡ set (take n xs) i y
-take_set zero xs i y = refl
-take_set (suc n) [] i y = refl
-take_set (suc n) (x ∷ xs) zero y = refl
-take_set (suc n) (x ∷ xs) (suc i) y = ap (λ l. x ∷ l) (take_set n xs i y)
 
 -- a fault of the second half names the page of the span
 abbrev pub at_page : {T : Type 0} → Result T PageFault → ℕ → Result T PageFault
@@ -34,13 +29,16 @@ module _ (a b : PageModel) (on : (joined a b).powered ≡ true) (at : ℕ) (insi
   cut : get_or (joined a b).pages at [] ≡ get_or (a.pages ++ b.pages) at []
   cut = get_or-take 65536 (a.pages ++ b.pages) at [] (let s = joined_size a b in omega arith)
 
+  small : at < 65536
+  small = let s = joined_size a b in omega arith
+
   module _ (low : at < length a.pages) where
     same_first : get_or a.pages at [] ≡ get_or (joined a b).pages at []
     same_first = sym (cut ∙ get_or_append_left a.pages b.pages [] at low)
 
     put_first : (page : List ℕ) → joined (with_page a at page) b ≡ with_page (joined a b) at page
     put_first page = ap (λ (ps : List (List ℕ)). record { pages = ps; powered = a.powered && b.powered })
-        (ap (take 65536) (sym (set-append_left a.pages b.pages at page low)) ∙ take_set 65536 (a.pages ++ b.pages) at page)
+        (ap (take 65536) (sym (set-append_left a.pages b.pages at page low)) ∙ take-set-lt 65536 (a.pages ++ b.pages) at page small)
 
     pub read_first : (r : Result (List ℕ) PageFault) → PageRead a at r → PageRead (joined a b) at r
     read_first r (PageRead.no_power p e) = never a.powered pa p
@@ -71,7 +69,7 @@ module _ (a b : PageModel) (on : (joined a b).powered ≡ true) (at : ℕ) (insi
     put_second : (page : List ℕ) → joined a (with_page b n page) ≡ with_page (joined a b) at page
     unfolding n
     put_second page = ap (λ (ps : List (List ℕ)). record { pages = ps; powered = a.powered && b.powered })
-        (ap (take 65536) (sym (set-append_right a.pages b.pages (length a.pages) at page refl high)) ∙ take_set 65536 (a.pages ++ b.pages) at page)
+        (ap (take 65536) (sym (set-append_right a.pages b.pages (length a.pages) at page refl high)) ∙ take-set-lt 65536 (a.pages ++ b.pages) at page small)
 
     off : (m : PageModel) → joined a (without_power m) ≡ without_power (joined a m)
     off m = ap (λ (t : Bool). record { pages = take 65536 (a.pages ++ m.pages); powered = t }) (and_right a.powered false refl)
