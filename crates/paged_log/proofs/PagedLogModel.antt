@@ -15,8 +15,8 @@ use Rattle.paged_log.specs.PagedLogsSound.{length_first, get_or_first, held_size
 use Rattle.paged_log.proofs.PagedLogEnds.{take_first, length_most}
 
 pub read_page : (m : PageModel) (at : ℕ) (r : Result (List ℕ) PageFault) (page : List ℕ) → PageRead m at r → r ≡ Ok page → page ≡ get_or m.pages at []
-read_page m at r page (PageRead.no_power p e) o = let z : ◌≡◌ {A = ℕ} 0 1 = cc in absurd (omega arith)
-read_page m at r page (PageRead.outside p l e) o = let z : ◌≡◌ {A = ℕ} 0 1 = cc in absurd (omega arith)
+read_page m at r page (PageRead.no_power p e) o = absurd cc
+read_page m at r page (PageRead.outside p l e) o = absurd cc
 read_page m at r page (PageRead.done p l e) o = cc
 
 pub at_this : (m : PageModel) (b : Bool) → m.powered ≡ b → m ≡ at_power b m.pages

@@ -5,17 +5,15 @@ use Rattle.std.proofs.lemmas.Bool.{cases_Bool, eq-eqb, both_ways}
 use Rattle.device.specs.declared.page_store.PageFault.{PageFault}
 use Rattle.device.specs.PageStores.{PageModel, PageWritten}
 use Rattle.paged_log.specs.PagedLogs.{blank, page_with, room_made, put_slot, at_power, Made, SlotPut}
+use Rattle.paged_log.proofs.PagedLogModel.{at_this}
 use Rattle.paged_log.proofs.PagedLogSteps.{room_size}
-
-on : (m : PageModel) → m.powered ≡ true → m ≡ at_power true m.pages
-on m e = ap (λ (t : Bool). record { pages = m.pages; powered = t }) e
 
 no_room : (pages : List (List ℕ)) (n : ℕ) → set pages (suc (n / 4)) blank ≡ pages → room_made pages n ≡ pages
 no_room pages n e = ⊎_elim (λ t. rw t e) (λ t. rw t refl) (cases_Bool (eqb (n % 4) 3))
 
 -- the next page is blank already
 pub room_blank : (m : PageModel) (n : ℕ) → m.powered ≡ true → get_or m.pages (suc (n / 4)) [] ≡ blank → m ≡ at_power true (room_made m.pages n)
-room_blank m n e h = on m e ∙ ap (at_power true) (sym (no_room m.pages n
+room_blank m n e h = at_this m true e ∙ ap (at_power true) (sym (no_room m.pages n
     (ap (set m.pages (suc (n / 4))) (sym h) ∙ set-get_or m.pages (suc (n / 4)) [])))
 
 wrote_made : (m : PageModel) (at : ℕ) (page : List ℕ) (r : Result (Unit {0}) PageFault) (m' : PageModel) → m.powered ≡ true → at < length m.pages
@@ -45,12 +43,12 @@ wrote_slot pages n slot bytes page m r m' inside s b p w =
 -- power was lost in making room
 pub room_lost : (pages : List (List ℕ)) (n : ℕ) (slot : List ℕ) (r : Result (Unit {0}) PageFault) (fault : PageFault) (m : PageModel)
     → Made pages (room_made pages n) r m → r ≡ Err fault → SlotPut pages n slot r m
-room_lost pages n slot r fault m (Made.done e s) f = let z : ◌≡◌ {A = ℕ} 0 1 = cc in absurd (omega arith)
+room_lost pages n slot r fault m (Made.done e s) f = absurd cc
 room_lost pages n slot r fault m (Made.lost at e s) f = SlotPut.room_lost at e s
 room_lost pages n slot r fault m (Made.lost_new at e s) f = SlotPut.put (Made.lost at e s)
 
 pub room_done : (pages : List (List ℕ)) (n : ℕ) (r : Result (Unit {0}) PageFault) (m : PageModel)
     → Made pages (room_made pages n) r m → r ≡ Ok tt → m ≡ at_power true (room_made pages n)
 room_done pages n r m (Made.done e s) f = s
-room_done pages n r m (Made.lost at e s) f = let z : ◌≡◌ {A = ℕ} 0 1 = cc in absurd (omega arith)
-room_done pages n r m (Made.lost_new at e s) f = let z : ◌≡◌ {A = ℕ} 0 1 = cc in absurd (omega arith)
+room_done pages n r m (Made.lost at e s) f = absurd cc
+room_done pages n r m (Made.lost_new at e s) f = absurd cc
