@@ -24,7 +24,7 @@ without_power m = record { pages = m.pages; powered = false }
 abbrev pub powered_on : PageModel → PageModel
 powered_on m = record { pages = m.pages; powered = true }
 
--- a fault in a store names the page at which it is there
+-- the same fault, named by this page
 abbrev pub fault_at : PageFault → ℕ → PageFault
 fault_at (PowerLost _) page = PowerLost page
 fault_at Outside page = Outside
