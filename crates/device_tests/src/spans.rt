@@ -8,10 +8,7 @@ fn power_is_cut_in_the_second_half(rt: HostRuntime) {
     let mut low = [[1; 256]; 2];
     let mut high = [[2; 256]; 2];
     let cut = PowerCut::at(1, 1);
-    let mut span = Span::new(
-        battery_pages(&mut low, None),
-        battery_pages(&mut high, cut),
-    );
+    let mut span = Span::new(battery_pages(&mut low, None), battery_pages(&mut high, cut));
     assert_eq!(rt; span.size(), 4);
     assert_eq!(rt; span.write(1, &[3; 256]), Ok(()));
     assert_eq!(rt; span.write(3, &[4; 256]), Err(PageFault::PowerLost(3)));
@@ -30,10 +27,7 @@ fn power_is_cut_in_the_first_half(rt: HostRuntime) {
     let mut low = [[1; 256]; 2];
     let mut high = [[2; 256]; 2];
     let cut = PowerCut::at(1, 0);
-    let mut span = Span::new(
-        battery_pages(&mut low, cut),
-        battery_pages(&mut high, None),
-    );
+    let mut span = Span::new(battery_pages(&mut low, cut), battery_pages(&mut high, None));
     assert_eq!(rt; span.write(1, &[3; 256]), Err(PageFault::PowerLost(1)));
     assert!(rt; span.second.is_powered());
     assert_eq!(rt; span.write(2, &[5; 256]), Err(PageFault::PowerLost(2)));
