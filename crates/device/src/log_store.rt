@@ -5,7 +5,7 @@ ghost use Rattle.device.specs.LogStores.{LogModel, SoundLog, LengthRead, SlotRea
 // Without power every call answers `PowerLost`, but for the capacity, whether there is power, and to power on.
 #[derive(Clone, Copy, Debug, PartialEq, Eq)]
 pub enum LogFault {
-    // There was no power at this slot, or it was lost there: at an append the slot to come, at a force the last, at the length 0.
+    // There was no power at this slot, or it was lost there: at an append the slot to come, at a force the last, at the length 0, which no slot has.
     PowerLost(u32),
     // The log has no such slot.
     Outside,

@@ -25,7 +25,7 @@ pub struct PageRecord<C> {
     pub job: u32,
     // The page's LRC once this record is played.
     pub lrc: u32,
-    // The job's next before a change; after a compensation, the job's next from then on.
+    // The job's next before a change; after a compensation, the job's next from then on. 0 is none, as the four bytes have it.
     pub link: u32,
     pub change: C,
 }

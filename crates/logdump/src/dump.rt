@@ -11,6 +11,14 @@ use std::alloc::Global;
 use std::io::{BufWriter, ErrorKind, Read, Write};
 use std::{fmt, io};
 
+// Prints slots, counts them in, and knows how many pages the store of their log has.
+#[derive(Drop)]
+struct Printer<W> {
+    out: W,
+    summary: Summary,
+    pages: u32,
+}
+
 pub(crate) fn dump<C: Change + fmt::Display + Copy, R: Read + Drop>(
     rt: &HostRuntime,
     reader: R,
@@ -18,87 +26,88 @@ pub(crate) fn dump<C: Change + fmt::Display + Copy, R: Read + Drop>(
     layout: Layout,
 ) -> Result<(), Failure> {
     let heap = rt.alloc();
-    let mut out = BufWriter::new(heap, rt.stdout())?;
-    let mut summary = Summary::new::<C>(heap);
+    let mut printer = Printer {
+        out: BufWriter::new(heap, rt.stdout())?,
+        summary: Summary::new::<C>(heap),
+        pages,
+    };
+    // Two ways to read, each with its own use of memory: a match is plainer than a closure for each.
     match layout {
-        Layout::Slots => dump_slots::<C, R, _>(heap, &mut out, &mut summary, reader, pages)?,
-        Layout::Pages => dump_pages::<C, R, _>(heap, &mut out, &mut summary, reader, pages)?,
+        Layout::Slots => printer.slots::<C, R>(heap, reader)?,
+        Layout::Pages => printer.log_pages::<C, R>(heap, reader)?,
     }
-    print_summary(&mut out, &summary)?;
-    out.flush()?;
+    print_summary(&mut printer.out, &printer.summary)?;
+    printer.out.flush()?;
     Ok(())
 }
 
-// An image of slots is printed while it is read.
-fn dump_slots<C: Change + fmt::Display + Copy, R: Read + Drop, W: Write>(
-    heap: Global,
-    out: &mut W,
-    summary: &mut Summary,
-    mut reader: R,
-    pages: u32,
-) -> Result<(), Failure> {
-    let mut row = Vec::with_capacity(heap, 60)?;
-    // Every loop has to end, and no image has so many slots.
-    for _ in 0..u64::MAX {
-        row.clear();
-        reader.by_ref().take(60).read_to_end(&mut row)?;
-        let Ok(slot) = <&[u8; 60]>::try_from(row.as_slice()) else {
-            break;
-        };
-        note_slot::<C, W>(out, summary, slot, pages)?;
-    }
-    print_rest(out, row.len(), "slot")?;
-    Ok(())
-}
-
-// An image of log pages is read whole, and the log on these pages is printed.
-fn dump_pages<C: Change + fmt::Display + Copy, R: Read + Drop, W: Write>(
-    heap: Global,
-    out: &mut W,
-    summary: &mut Summary,
-    mut reader: R,
-    pages: u32,
-) -> Result<(), Failure> {
-    let mut bytes = Vec::new(heap);
-    // An image that is too large for memory is no fault of the input.
-    reader
-        .read_to_end(&mut bytes)
-        .map_err(|error| match error.kind() {
-            ErrorKind::OutOfMemory => Failure::OutOfMemory,
-            _ => Failure::Io(error),
-        })?;
-    let (image, rest) = bytes.as_mut_slice().as_chunks_mut::<256>();
-    print_rest(out, rest.len(), "page")?;
-    let log = PagedLog::new(battery_pages(image, None));
-    for number in 1..=log.len().unwrap_or(0) {
-        if let Ok(slot) = log.read(number) {
-            note_slot::<C, W>(out, summary, &slot, pages)?;
+impl<W: Write> Printer<W> {
+    // An image of slots is printed while it is read.
+    fn slots<C: Change + fmt::Display + Copy, R: Read + Drop>(
+        &mut self,
+        heap: Global,
+        mut reader: R,
+    ) -> Result<(), Failure> {
+        let mut row = Vec::with_capacity(heap, 60)?;
+        // Every loop has to end, and no image has so many slots.
+        for _ in 0..u64::MAX {
+            row.clear();
+            reader.by_ref().take(60).read_to_end(&mut row)?;
+            let Ok(slot) = <&[u8; 60]>::try_from(row.as_slice()) else {
+                break;
+            };
+            self.note::<C>(slot)?;
         }
+        self.print_rest(row.len(), "slot")?;
+        Ok(())
     }
-    Ok(())
-}
 
-fn print_rest<W: Write>(out: &mut W, got: usize, whole: &str) -> io::Result<()> {
-    if got > 0 {
-        writeln!(out, "{got} bytes at the end are no whole {whole}")?;
+    // An image of log pages is read whole, and the log on these pages is printed.
+    fn log_pages<C: Change + fmt::Display + Copy, R: Read + Drop>(
+        &mut self,
+        heap: Global,
+        mut reader: R,
+    ) -> Result<(), Failure> {
+        let mut bytes = Vec::new(heap);
+        // An image that is too large for memory is no fault of the input.
+        reader
+            .read_to_end(&mut bytes)
+            .map_err(|error| match error.kind() {
+                ErrorKind::OutOfMemory => Failure::OutOfMemory,
+                _ => Failure::Io(error),
+            })?;
+        let (image, rest) = bytes.as_mut_slice().as_chunks_mut::<256>();
+        self.print_rest(rest.len(), "page")?;
+        let log = PagedLog::new(battery_pages(image, None));
+        for number in 1..=log.len().unwrap_or(0) {
+            if let Ok(slot) = log.read(number) {
+                self.note::<C>(&slot)?;
+            }
+        }
+        Ok(())
     }
-    Ok(())
-}
 
-// Prints the next slot, and counts it in.
-fn note_slot<C: Change + fmt::Display + Copy, W: Write>(
-    out: &mut W,
-    summary: &mut Summary,
-    bytes: &[u8; 60],
-    pages: u32,
-) -> Result<(), Failure> {
-    let number = summary.slots.checked_add(1).ok_or(Failure::TooManySlots)?;
-    let slot = Slot::<C>::read(bytes, number, pages);
-    match &slot {
-        Ok(slot) => writeln!(out, "{number:>6}  {slot}")?,
-        Err(why) => writeln!(out, "{number:>6}  does not fit: {why}")?,
+    fn print_rest(&mut self, got: usize, whole: &str) -> io::Result<()> {
+        if got > 0 {
+            writeln!(self.out, "{got} bytes at the end are no whole {whole}")?;
+        }
+        Ok(())
     }
-    let fitting = slot.ok();
-    summary.note(fitting.as_ref())?;
-    Ok(())
+
+    // Prints the next slot, and counts it in.
+    fn note<C: Change + fmt::Display + Copy>(&mut self, bytes: &[u8; 60]) -> Result<(), Failure> {
+        let number = self
+            .summary
+            .slots
+            .checked_add(1)
+            .ok_or(Failure::TooManySlots)?;
+        let slot = Slot::<C>::read(bytes, number, self.pages);
+        match &slot {
+            Ok(slot) => writeln!(self.out, "{number:>6}  {slot}")?,
+            Err(why) => writeln!(self.out, "{number:>6}  does not fit: {why}")?,
+        }
+        let fitting = slot.ok();
+        self.summary.note(fitting.as_ref())?;
+        Ok(())
+    }
 }

@@ -4,9 +4,9 @@
 #[derive(Clone, Copy)]
 pub struct JobEntry {
     pub job: u32,
-    // The number of its newest change not yet taken back, or 0.
+    // The number of its newest change not yet taken back, or 0, as a checkpoint writes it.
     pub next: u32,
-    // The pages that it holds.
+    // The pages that it holds: an array, since a set would want memory with each hold.
     pub holds: [bool; 64],
 }
 

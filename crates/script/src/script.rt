@@ -17,7 +17,7 @@ impl Script {
         Ok(Script { plan })
     }
 
-    // Another handle to the same plan.
+    // Another handle to the same plan. Not `Clone`: a clone would be taken for a plan of its own.
     pub fn handle(&self) -> Result<Script, AllocError> {
         let plan = self.plan.clone()?;
         Ok(Script { plan })

@@ -62,6 +62,7 @@ impl LogStore for ScriptedLog {
     }
 }
 
+// A function for each operation: they have only the loss in common, and each leaves something else.
 impl ScriptedLog {
     // An append where there is room; with a loss, what that leaves is chosen.
     fn append_or_lose(

@@ -1,4 +1,5 @@
-// Theorems about the definitions, each the contract of a function that does nothing else.
+// Theorems about the definitions, each the contract of a function that does nothing else. Those of `rules` are about the definitions there, by which
+// a call answers otherwise where the sizes are out of range.
 ghost use Rattle.server_rules.specs.Examples.{Worked, Possible};
 
 use format::Change;

@@ -1,4 +1,5 @@
 // Reads a slot from its 60 bytes, or says why they do not fit.
+// The slot's number and the number of pages go along as two numbers: a struct for them would have to be made at each call.
 ghost use Rattle.std.specs.Prelude.{◌≡◌, is_ok, IfOk};
 ghost use Rattle.format.specs.Slots.{slot_of, record_from, read_slot, fits, slot_bytes};
 

@@ -29,7 +29,7 @@ impl DirtyTable {
             .is_some_and(|entry| entry.start <= slot)
     }
 
-    // The smallest redo start; 0 if no page is dirty.
+    // The smallest redo start; 0 if no page is dirty, the number that redo answers then.
     pub fn least_start(&self) -> u32
         ensures { result ≡ least_start self.now }
     {

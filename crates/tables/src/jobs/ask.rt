@@ -28,7 +28,7 @@ impl JobTable {
         self.find(job).is_some()
     }
 
-    // The job's next; 0 where there is no such job.
+    // The job's next; 0 where there is no such job, as slots write it where a job has none.
     pub fn next_of(&self, job: u32) -> u32
         ensures { result ≡ next_of job self.now }
     {
