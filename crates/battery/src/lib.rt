@@ -20,7 +20,7 @@ pub struct PowerCut {
 }
 
 // Of the cells so many are in use, and of those so many stand when power is lost. Of a page store all that have a number are.
-// No more than `MOST` have one.
+// No more than `MOST` have one. The owner lends all cells at once, so how many are in use stands beside them.
 #[derive(Drop)]
 pub struct Battery<'a, E, const MOST: usize> {
     cells: &'a mut [E],

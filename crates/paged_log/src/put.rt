@@ -1,5 +1,4 @@
 // What a log does with its pages while there is power: find the end, see whether a slot stands, put a slot.
-// Functions of the store and not of the log: they run while the log is being made or changed, when its invariants do not hold yet.
 // They take the pages and not the log, whose invariants do not hold amid an append; so each says what it needs.
 ghost use Rattle.std.specs.Prelude.{◌≡◌, ◌<◌, true};
 ghost use Rattle.paged_log.specs.PagedLogs.{log_length, room, stands, room_made, Made, SlotPut};
