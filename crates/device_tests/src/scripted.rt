@@ -83,7 +83,7 @@ fn one_count_over_both_devices(rt: HostRuntime) -> Result<(), Fail> {
     assert!(rt; devices.pages.is_powered() && !devices.log.is_powered());
     assert_eq!(rt; (devices.log.slots(), devices.log.forced()), (1, 1));
     devices.power_on();
-    script.set(PowerPlan::new(None, 0));
+    script.set(PowerPlan::new(Loss::at(0, Choice::Old), 0));
     devices.write_append_force();
     assert_eq!(rt; script.plan().operations(), 3);
     assert_eq!(rt; (devices.log.slots(), devices.log.forced()), (2, 2));

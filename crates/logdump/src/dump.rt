@@ -48,7 +48,8 @@ impl<W: Write> Printer<W> {
         heap: Global,
         mut reader: R,
     ) -> Result<(), Failure> {
-        let mut row = Vec::with_capacity(heap, 60)?;
+        // Room for one byte more than a row has, so that no reading wants more.
+        let mut row = Vec::with_capacity(heap, 61)?;
         // Every loop has to end, and no image has so many slots.
         for _ in 0..u64::MAX {
             row.clear();
