@@ -3,6 +3,9 @@
 
 mod log_store;
 mod page_store;
+mod power;
+mod words;
 
-pub use log_store::{LogFault, LogStore};
-pub use page_store::{PageFault, PageStore};
+pub use log_store::{LogFault, LogStore, MOST_SLOTS};
+pub use page_store::{MOST_PAGES, PageFault, PageStore};
+pub use power::check_power;

@@ -2,6 +2,9 @@
 ghost use Rattle.std.specs.Prelude.{◌≡◌};
 ghost use Rattle.device.specs.LogStores.{LogModel, SoundLog, LengthRead, SlotRead, SlotAppended, LogForced, powered_on};
 
+// The largest capacity: the number after the last slot fits four bytes.
+pub const MOST_SLOTS: u32 = 4_294_967_294;
+
 // Without power every call answers `PowerLost`, but for the capacity, whether there is power, and to power on.
 #[derive(Clone, Copy, Debug, PartialEq, Eq)]
 pub enum LogFault {

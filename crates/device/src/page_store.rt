@@ -2,6 +2,9 @@
 ghost use Rattle.std.specs.Prelude.{◌≡◌, length};
 ghost use Rattle.device.specs.PageStores.{PageModel, SoundPages, PageRead, PageWritten, powered_on, fault_at};
 
+// Pages are numbered below this.
+pub const MOST_PAGES: u32 = 65_536;
+
 // Without power every call answers `PowerLost`, but for the size, whether there is power, and to power on.
 #[derive(Clone, Copy, Debug, PartialEq, Eq)]
 pub enum PageFault {
