@@ -2,8 +2,10 @@
 use Rattle.std.proofs.Common.{◌≡◌, ℕ, ◌+◌, min, Bool, true, false, cond, not, ◌&&◌, ◌||◌, eqb, ltb, List, [], ◌∷◌, map, refl, ap, ◌∙◌, Some, ◌<◌, ◌++◌, length, take, drop, get_or, set, ◌≤◌, None, arith}
 use Rattle.std.specs.List.{find, filter, list_any, position_or_len, position, insert, reduce, fold}
 use Rattle.std.specs.Option.{unwrap_or}
+use Rattle.std.specs.Bool.{then_some}
 use native.Mathlib.Numerals.{one-add}
 use Rattle.std.proofs.lemmas.List.Sums.{prefix_len-le-length}
+use Rattle.std.proofs.lemmas.Bool.{lt-ltb}
 use Rattle.std.proofs.lemmas.Bool.Decides.{nat_tests}
 use Rattle.rules.specs.declared.table.JobEntry.{JobEntry}
 use Rattle.rules.specs.Tables.{Jobs, Dirty, entered, find_job, holds_page, held_by, held_by_another, is_held, with_next, with_hold, without_job, find_page, least_from, least_start}
@@ -35,9 +37,9 @@ pub find_page_is : (p : ℕ) (xs : Dirty) → find_page p xs ≡ find (λ x. eqb
 find_page_is p [] = refl
 find_page_is p (x ∷ xs) = ap (cond (eqb x.page p) (Some x)) (find_page_is p xs)
 
-pub least_start_is : (xs : Dirty) → least_start xs ≡ unwrap_or (reduce min (map (λ x. x.start) xs)) 0
+pub least_start_is : (xs : Dirty) → then_some (ltb 0 (length xs)) (least_start xs) ≡ reduce min (map (λ x. x.start) xs)
 least_start_is [] = refl
-least_start_is (x ∷ xs) = from x.start xs
+least_start_is (x ∷ xs) = ap (λ b. then_some b (least_start (x ∷ xs))) (lt-ltb 0 (length (x ∷ xs)) (omega arith)) ∙ ap Some (from x.start xs)
   where
     from : (n : ℕ) (xs : Dirty) → least_from n xs ≡ fold min n (map (λ x. x.start) xs)
     from n [] = refl

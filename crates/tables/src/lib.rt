@@ -25,7 +25,7 @@ mod tests {
         jobs.set_next(4, 5);
         jobs.hold(4, 63);
         assert!(rt; jobs.is_job(4) && jobs.held_by(4, 63) && !jobs.is_held(0));
-        assert_eq!(rt; (jobs.count(), jobs.next_of(4)), (1, 5));
+        assert_eq!(rt; (jobs.count(), jobs.next_of(4)), (1, Some(5)));
         jobs.remove(4);
         assert_eq!(rt; jobs.count(), 0);
         Ok(())
@@ -37,7 +37,7 @@ mod tests {
         dirty.enter(1, 7);
         dirty.enter(1, 9);
         assert!(rt; dirty.is_due(1, 7) && !dirty.is_due(1, 6) && !dirty.is_due(0, 9));
-        assert_eq!(rt; (dirty.count(), dirty.least_start()), (1, 7));
+        assert_eq!(rt; (dirty.count(), dirty.least_start()), (1, Some(7)));
         Ok(())
     }
 }

@@ -1,5 +1,6 @@
 // Questions to the table of dirty pages.
-ghost use Rattle.std.specs.Prelude.{◌≡◌, ◌≤◌, length};
+ghost use Rattle.std.specs.Prelude.{◌≡◌, ◌≤◌, length, nat_lt};
+ghost use Rattle.std.specs.Bool.{then_some};
 ghost use Rattle.std.specs.Option.{option_map};
 ghost use Rattle.rules.specs.Tables.{find_page, least_start};
 ghost use Rattle.rules.specs.Restart.{is_due};
@@ -29,10 +30,10 @@ impl DirtyTable {
             .is_some_and(|entry| entry.start <= slot)
     }
 
-    // The smallest redo start; 0 if no page is dirty, the number that redo answers then.
-    pub fn least_start(&self) -> u32
-        ensures { result ≡ least_start self.now }
+    // The smallest redo start, None if no page is dirty.
+    pub fn least_start(&self) -> Option<u32>
+        ensures { result ≡ then_some (nat_lt 0 (length self.now)) (least_start self.now) }
     {
-        self.list.iter().map(|entry| entry.start).min().unwrap_or(0)
+        self.list.iter().map(|entry| entry.start).min()
     }
 }

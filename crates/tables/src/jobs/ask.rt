@@ -1,7 +1,7 @@
 // Questions to the job table.
 ghost use Rattle.std.specs.Prelude.{◌≡◌, ◌≤◌, length};
 ghost use Rattle.std.specs.Option.{option_map};
-ghost use Rattle.rules.specs.Tables.{find_job, is_job, next_of, holds_page, held_by, held_by_another, is_held};
+ghost use Rattle.rules.specs.Tables.{find_job, is_job, holds_page, held_by, held_by_another, is_held};
 
 use super::JobTable;
 use rules::JobEntry;
@@ -28,11 +28,11 @@ impl JobTable {
         self.find(job).is_some()
     }
 
-    // The job's next; 0 where there is no such job, as slots write it where a job has none.
-    pub fn next_of(&self, job: u32) -> u32
-        ensures { result ≡ next_of job self.now }
+    // The next of the job, None where there is no such job. A job that has none has 0, as its slots write it.
+    pub fn next_of(&self, job: u32) -> Option<u32>
+        ensures { result ≡ option_map (λ e. e.next) (find_job job self.now) }
     {
-        self.find(job).map_or(0, |entry| entry.next)
+        self.find(job).map(|entry| entry.next)
     }
 
     pub fn held_by(&self, job: u32, page: u32) -> bool
