@@ -33,8 +33,8 @@ impl JobTable {
             .iter()
             .position(|other| entry.job < other.job)
             .unwrap_or(list.len());
-        // Never refused: there is room for it.
-        let _ = list.insert(place, entry);
+        // There is room for it.
+        list.insert(place, entry).unwrap();
     }
 
     pub fn set_next(&mut self, job: u32, next: u32)
