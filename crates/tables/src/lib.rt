@@ -1,4 +1,5 @@
-// The server's tables: open jobs, and dirty pages.
+// The server's tables: open jobs, and dirty pages. They are two types, as the job table's entries stand in an inner struct
+// that lends them, and each table is asked other things.
 #![tactic(auto)]
 
 mod dirty;

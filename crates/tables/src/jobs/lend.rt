@@ -19,7 +19,7 @@ impl Entries {
         self.list.get_mut(place)
     }
 
-    // Each entry of the job is lent to be changed; the others stay. By place, since `entry` lends one at a time.
+    // Each entry of the job is lent to be changed; the others stay. The table lends one entry at a time, by its place.
     pub(super) fn change<F: Fn(&mut JobEntry)>(&mut self, job: u32, change: F)
         requires { F.IsAlwaysCallable change }
         ensures items { (f : JobEntry → JobEntry) → Makes (F.post change) f → self.new.list.items ≡ map (of_job job f) self.old.list.items }
