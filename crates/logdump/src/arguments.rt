@@ -1,5 +1,6 @@
 // What the program is asked: the number of pages, the kind of change, how the log lies in the image, and where the image is.
 use crate::failure::Failure;
+use device::MOST_PAGES;
 use std::env;
 use std::str::FromStr;
 
@@ -49,7 +50,7 @@ impl Arguments {
 fn page_count(text: &str) -> Result<u32, Failure> {
     text.parse()
         .ok()
-        .filter(|pages| (1..=65536).contains(pages))
+        .filter(|pages| (1..=MOST_PAGES).contains(pages))
         .ok_or(Failure::Pages)
 }
 

@@ -1,7 +1,6 @@
 // Reads an image and prints its slots.
 use crate::arguments::Layout;
 use crate::failure::Failure;
-use crate::report::print_summary;
 use battery::battery_pages;
 use device::LogStore;
 use format::{Change, Slot};
@@ -11,6 +10,13 @@ use std::alloc::Global;
 use std::io::{BufWriter, ErrorKind, Read, Write};
 use std::{fmt, io};
 
+mod report;
+
+// A kind of change whose slots can be printed.
+pub(crate) trait Printable: Change + fmt::Display + Copy {}
+
+impl<C: Change + fmt::Display + Copy> Printable for C {}
+
 // Prints slots, counts them in, and knows how many pages the store of their log has.
 #[derive(Drop)]
 struct Printer<W> {
@@ -19,7 +25,7 @@ struct Printer<W> {
     pages: u32,
 }
 
-pub(crate) fn dump<C: Change + fmt::Display + Copy, R: Read + Drop>(
+pub(crate) fn dump<C: Printable, R: Read + Drop>(
     rt: &HostRuntime,
     reader: R,
     pages: u32,
@@ -36,14 +42,14 @@ pub(crate) fn dump<C: Change + fmt::Display + Copy, R: Read + Drop>(
         Layout::Slots => printer.slots::<C, R>(heap, reader)?,
         Layout::Pages => printer.log_pages::<C, R>(heap, reader)?,
     }
-    print_summary(&mut printer.out, &printer.summary)?;
+    printer.print_summary()?;
     printer.out.flush()?;
     Ok(())
 }
 
 impl<W: Write> Printer<W> {
     // An image of slots is printed while it is read.
-    fn slots<C: Change + fmt::Display + Copy, R: Read + Drop>(
+    fn slots<C: Printable, R: Read + Drop>(
         &mut self,
         heap: Global,
         mut reader: R,
@@ -64,7 +70,7 @@ impl<W: Write> Printer<W> {
     }
 
     // An image of log pages is read whole, and the log on these pages is printed.
-    fn log_pages<C: Change + fmt::Display + Copy, R: Read + Drop>(
+    fn log_pages<C: Printable, R: Read + Drop>(
         &mut self,
         heap: Global,
         mut reader: R,
@@ -80,10 +86,9 @@ impl<W: Write> Printer<W> {
         let (image, rest) = bytes.as_mut_slice().as_chunks_mut::<256>();
         self.print_rest(rest.len(), "page")?;
         let log = PagedLog::new(battery_pages(image, None));
-        for number in 1..=log.len().unwrap_or(0) {
-            if let Ok(slot) = log.read(number) {
-                self.note::<C>(&slot)?;
-            }
+        for number in 1..=log.len()? {
+            let slot = log.read(number)?;
+            self.note::<C>(&slot)?;
         }
         Ok(())
     }
@@ -96,7 +101,7 @@ impl<W: Write> Printer<W> {
     }
 
     // Prints the next slot, and counts it in.
-    fn note<C: Change + fmt::Display + Copy>(&mut self, bytes: &[u8; 60]) -> Result<(), Failure> {
+    fn note<C: Printable>(&mut self, bytes: &[u8; 60]) -> Result<(), Failure> {
         let number = self
             .summary
             .slots

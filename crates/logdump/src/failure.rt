@@ -1,4 +1,5 @@
 // Why the program gives up, each in a sentence that says what was expected.
+use device::LogFault;
 use recovery_log::NoteError;
 use std::alloc::AllocError;
 use std::io;
@@ -20,6 +21,8 @@ pub enum Failure {
     TooManySlots,
     #[error(transparent)]
     Note(#[from] NoteError),
+    #[error(transparent)]
+    Log(#[from] LogFault),
     #[error(transparent)]
     Io(#[from] io::Error),
 }

@@ -5,7 +5,6 @@
 mod arguments;
 mod dump;
 mod failure;
-mod report;
 
 use arguments::{Arguments, ChangeKind};
 use changes::{Addition, Patch};
