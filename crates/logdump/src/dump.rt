@@ -6,7 +6,7 @@ use device::LogStore;
 use format::{Change, Slot};
 use paged_log::PagedLog;
 use recovery_log::Summary;
-use std::alloc::Global;
+use std::alloc::{AllocError, Global};
 use std::io::{BufWriter, ErrorKind, Read, Write};
 use std::{fmt, io};
 
@@ -80,7 +80,7 @@ impl<W: Write> Printer<W> {
         reader
             .read_to_end(&mut bytes)
             .map_err(|error| match error.kind() {
-                ErrorKind::OutOfMemory => Failure::OutOfMemory,
+                ErrorKind::OutOfMemory => Failure::OutOfMemory(AllocError),
                 _ => Failure::Io(error),
             })?;
         let (image, rest) = bytes.as_mut_slice().as_chunks_mut::<256>();

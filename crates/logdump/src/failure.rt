@@ -16,7 +16,7 @@ pub enum Failure {
     #[error("expected the layout of the image third, slots or pages")]
     Layout,
     #[error("there is not enough memory for the summary")]
-    OutOfMemory,
+    OutOfMemory(#[from(alloc)] AllocError),
     #[error("the image has more slots than four bytes can number")]
     TooManySlots,
     #[error(transparent)]
@@ -25,10 +25,4 @@ pub enum Failure {
     Log(#[from] LogFault),
     #[error(transparent)]
     Io(#[from] io::Error),
-}
-
-impl From<AllocError> for Failure {
-    fn from(_error: AllocError) -> Failure {
-        Failure::OutOfMemory
-    }
 }
