@@ -48,6 +48,7 @@ pub enum CheckpointPart {
     Begin,
     // A page whose stored copy lacks records, the first of them in slot `start`.
     DirtyPage { page: u8, start: u32 },
+    // A job and its next, 0 where it has none, as the four bytes have it.
     OpenJob { job: u32, next: u32 },
     Complete { begin: u32 },
 }

@@ -15,12 +15,15 @@ impl<C: fmt::Display> fmt::Display for Slot<C> {
 
 impl<C: fmt::Display> fmt::Display for PageRecord<C> {
     fn fmt<W: fmt::Write>(&self, f: &mut fmt::Formatter<W>) -> fmt::Result {
-        let job = self.job;
-        let page = self.page;
-        let lrc = self.lrc;
-        let link = self.link;
-        let change = &self.change;
-        match self.action {
+        let PageRecord {
+            action,
+            page,
+            job,
+            lrc,
+            link,
+            change,
+        } = self;
+        match action {
             Action::Put => write!(
                 f,
                 "change by job {job} on page {page}, LRC {lrc}, next before {link}: {change}"

@@ -73,12 +73,15 @@ const KINDS: [(SlotKind, Uses); 9] = [
     ),
 ];
 
-fn uses_of(kind: SlotKind) -> Uses
-    ensures { result ≡ uses_of kind }
-{
-    let (row_kind, uses) = KINDS[kind as usize - 1];
-    prove!(row_kind == kind);
-    uses
+impl SlotKind {
+    // The row of a kind is at its number less one, which `prove!` has checked of every kind.
+    fn uses(self) -> Uses
+        ensures { result ≡ uses_of self }
+    {
+        let (kind, uses) = KINDS[self as usize - 1];
+        prove!(kind == self);
+        uses
+    }
 }
 
 impl Fields {
@@ -143,29 +146,30 @@ impl Fields {
     pub(crate) fn check(&self, number: u32, pages: u32) -> Result<(), Misfit>
         ensures { result ≡ checked pages number self.now }
     {
-        let uses = uses_of(self.kind);
-        if !self.unused_zero(uses) {
+        let uses = self.kind.uses();
+        if !self.unused_zero() {
             return Err(Misfit::UnusedNotZero);
         }
         if uses.page && u32::from(self.page) >= pages {
             return Err(Misfit::PageOutside(self.page));
         }
-        if !self.job_fits(uses, number) {
+        if !self.job_fits(number) {
             return Err(Misfit::JobOutside(self.job));
         }
         if uses.lrc && self.lrc < 1 {
             return Err(Misfit::LrcZero);
         }
-        if !self.link_fits(uses, number) {
+        if !self.link_fits(number) {
             return Err(Misfit::LinkOutside(self.link));
         }
         Ok(())
     }
 
     // Every field that the kind does not use is zero.
-    fn unused_zero(&self, uses: Uses) -> bool
-        ensures { result ≡ unused_zero uses self.now }
+    fn unused_zero(&self) -> bool
+        ensures { result ≡ unused_zero (uses_of self.now.kind) self.now }
     {
+        let uses = self.kind.uses();
         (uses.page || self.page == 0)
             && (uses.job || self.job == 0)
             && (uses.lrc || self.lrc == 0)
@@ -173,10 +177,10 @@ impl Fields {
             && (uses.change || all_zero(&self.change))
     }
 
-    fn job_fits(&self, uses: Uses, number: u32) -> bool
-        ensures { result ≡ job_fits number uses self.now }
+    fn job_fits(&self, number: u32) -> bool
+        ensures { result ≡ job_fits number (uses_of self.now.kind) self.now }
     {
-        !uses.job
+        !self.kind.uses().job
             || (1 <= self.job
                 && match self.kind {
                     SlotKind::Open => self.job == number,
@@ -184,21 +188,21 @@ impl Fields {
                 })
     }
 
-    fn link_fits(&self, uses: Uses, number: u32) -> bool
-        ensures { result ≡ link_fits number uses self.now }
+    fn link_fits(&self, number: u32) -> bool
+        ensures { result ≡ link_fits number (uses_of self.now.kind) self.now }
     {
         let least = match self.kind {
             SlotKind::CheckpointPage | SlotKind::CheckpointEnd => 1,
             _ => 0,
         };
-        !uses.link || (least <= self.link && self.link < number)
+        !self.kind.uses().link || (least <= self.link && self.link < number)
     }
 
     // The fields with zero in each that the kind does not use.
     pub(crate) fn only_used(self) -> Fields
         ensures { result ≡ only_used self }
     {
-        let uses = uses_of(self.kind);
+        let uses = self.kind.uses();
         Fields {
             kind: self.kind,
             page: if_used(uses.page, self.page, 0),
