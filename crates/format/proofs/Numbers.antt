@@ -1,5 +1,5 @@
 -- Four bytes and the number that they spell: at a place, behind a front that was taken off, spelled again; sums modulo 2^32.
-use Rattle.std.proofs.Common.{◌≡◌, ℕ, ◌+◌, ◌-◌, ◌*◌, ◌/◌, ◌%◌, ◌^◌, ◌<◌, ◌≤◌, List, [], ◌∷◌, ◌++◌, length, get_or, take, drop, sym, refl, ap, ◌∙◌, add-zero, add_assoc, arith, lit<}
+use Rattle.std.proofs.Common.{◌≡◌, ℕ, ◌+◌, ◌-◌, ◌*◌, ◌/◌, ◌%◌, ◌^◌, ◌<◌, ◌≤◌, List, [], ◌∷◌, ◌++◌, length, get_or, take, drop, sym, refl, ap, ◌∙◌, add-zero, arith, lit<}
 use Rattle.std.proofs.lemmas.List.{get_or-take, get_or-drop, drop-drop, take-append-drop}
 use Rattle.std.proofs.lemmas.Nat.{mod_below, div_below, shr-shr}
 use Rattle.format.specs.Bytes.{Bytes, number_at, spelled}
@@ -71,9 +71,6 @@ number_part xs at =
     let e2 : get_or (take 4 (drop at xs)) 2 0 ≡ get_or xs (at + 2) 0 = get_or-take 4 (drop at xs) 2 0 (lit< tt) ∙ get_or-drop at xs 2 0 in
     let e3 : get_or (take 4 (drop at xs)) 3 0 ≡ get_or xs (at + 3) 0 = get_or-take 4 (drop at xs) 3 0 (lit< tt) ∙ get_or-drop at xs 3 0 in
     cc
-
-pub number_drop : (b : List ℕ) (i at : ℕ) → number_at (drop i b) at ≡ number_at b (i + at)
-number_drop b i at = simp (get_or-drop, add_assoc)
 
 -- the number at a place, spelled again, stands there
 pub spelled_at : (b : List ℕ) (i : ℕ) → Small b → i + 4 ≤ length b → spelled (number_at b i) ++ drop (i + 4) b ≡ drop i b

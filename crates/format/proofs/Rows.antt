@@ -1,6 +1,7 @@
 -- Rows of bytes: how they stay bytes when they are cut and joined, and what the tests of a row say.
 use Rattle.std.proofs.Common.{◌≡◌, ℕ, zero, suc, ◌+◌, ◌<◌, ◌≤◌, Bool, true, false, eqb, List, [], ◌∷◌, ◌++◌, length, get_or, take, drop, replicate, sym, refl, ap, ◌∙◌, arith, lit<, length-drop, length-take, get_or-drop}
 use Rattle.std.proofs.lemmas.List.{take_all}
+use Rattle.std.proofs.lemmas.List.Folds.{list_all-append}
 use Rattle.std.proofs.lemmas.Bool.{and_parts, and_from, ltb-true, lt-ltb, eqb-true, eqb-false}
 use Rattle.format.specs.Bytes.{Bytes, all_bytes, all_zero}
 
@@ -62,9 +63,7 @@ pub not_empty : (xs : List ℕ) → false ≡ eqb (length xs) 0 → 1 ≤ length
 not_empty xs e = omega (arith, eqb-false (length xs) 0 (sym e))
 
 pub all_zero_append : (xs ys : List ℕ) → all_zero xs ≡ true → all_zero ys ≡ true → all_zero (xs ++ ys) ≡ true
-all_zero_append [] ys e f = f
-all_zero_append (x ∷ xs) ys e f =
-    let p = and_parts (eqb x 0) (all_zero xs) e in and_from (eqb x 0) (all_zero (xs ++ ys)) p.0 (all_zero_append xs ys p.1 f)
+all_zero_append xs ys e f = list_all-append (λ x. eqb x 0) xs ys ∙ and_from _ _ e f
 
 pub four_and_rest : (xs : List ℕ) → 4 ≤ length xs → xs ≡ get_or xs 0 0 ∷ get_or xs 1 0 ∷ get_or xs 2 0 ∷ get_or xs 3 0 ∷ drop 4 xs
 four_and_rest [] h = absurd (omega arith)
