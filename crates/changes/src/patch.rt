@@ -5,7 +5,8 @@ ghost use Rattle.changes.specs.PatchForm.{patch_ok};
 mod change;
 mod parts;
 
-// An array with its length beside: a patch is copied and lies in no heap, and a Vec is neither.
+// An array with its length beside: a patch is copied and lies in no heap. A Vec is neither, and the kit's ArrayVec lies in no
+// heap, but is not Copy.
 #[derive(Clone, Copy)]
 pub struct Patch {
     offset: u8,
