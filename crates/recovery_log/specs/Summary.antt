@@ -78,6 +78,10 @@ module _ {C : Type 0} where
     pub ordered : IsOrdered kind_cmp kinds
     pub each : (k : SlotKind) → get kind_cmp kinds k ≡ then_some (nat_lt 0 (how_many k L)) (how_many k L)
 
+  -- where what stood before tells of a log that has room for a slot, what stands after tells of the log with this slot on top
+  abbrev pub Carries : {X : Type 0} → (X → Log C → Type 0) → Option (Slot C) → X → X → Type 0
+  Carries Told slot before after = (L : Log C) → length L < 2 ^ 32 - 1 → Told before L → Told after (slot ∷ L)
+
 -- Checkpoints
 
 -- the draft has the begin, and names the pages and the jobs, of what is in the making

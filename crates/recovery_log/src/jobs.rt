@@ -1,8 +1,7 @@
 // What a summary holds of each job.
-ghost use Rattle.std.specs.Prelude.{◌≡◌, ◌-◌, ◌^◌, ◌<◌, ◌∷◌, length, OnOk};
+ghost use Rattle.std.specs.Prelude.{◌≡◌, OnOk};
 ghost use Rattle.std.specs.Option.{option_map};
-ghost use Rattle.recovery_log.specs.Log.{Log};
-ghost use Rattle.recovery_log.specs.Summary.{TellsJobs, with_action, with_event};
+ghost use Rattle.recovery_log.specs.Summary.{Carries, TellsJobs, with_action, with_event};
 
 use format::{Action, JobEvent, Slot};
 use std::alloc::AllocError;
@@ -23,7 +22,7 @@ pub(crate) fn note_job<C>(
     jobs: &mut BTreeMap<u32, JobSummary>,
     slot: Option<&Slot<C>>,
 ) -> Result<(), AllocError>
-    ensures { OnOk result ((L : Log C) → length L < 2 ^ 32 - 1 → TellsJobs jobs.old L → TellsJobs jobs.new (option_map (λ x. x.now) slot.entry ∷ L)) }
+    ensures { OnOk result (Carries TellsJobs (option_map (λ x. x.now) slot.entry) jobs.old jobs.new) }
 {
     match slot {
         Some(Slot::Record(record)) => {

@@ -1,8 +1,8 @@
 // A summary of a log, fed one slot after the other from the oldest on.
-ghost use Rattle.std.specs.Prelude.{◌≡◌, ◌-◌, ◌^◌, ◌<◌, [], ◌∷◌, length, OnOk};
+ghost use Rattle.std.specs.Prelude.{◌≡◌, [], ◌∷◌, OnOk};
 ghost use Rattle.std.specs.Option.{option_map};
 ghost use Rattle.recovery_log.specs.Log.{Log, how_many_misfits, making, new_number};
-ghost use Rattle.recovery_log.specs.Summary.{Tells, Noted, TellsPages, TellsKinds, TellsMaking, complete};
+ghost use Rattle.recovery_log.specs.Summary.{Tells, Noted, Carries, TellsPages, TellsKinds, TellsMaking, complete};
 
 use crate::error::NoteError;
 use crate::jobs::{JobSummary, note_job};
@@ -103,7 +103,7 @@ fn newest<C>(
 // A count is at most the number of slots, so it never stops at the greatest number; alone it does not know that.
 #[tactic(auto, using(crate::proofs::Counting::how_many_misfits_most))]
 fn note_misfit<C>(misfits: &mut u32, slot: Option<&Slot<C>>)
-    ensures { (L : Log C) → length L < 2 ^ 32 - 1 → misfits.old ≡ how_many_misfits L → misfits.new ≡ how_many_misfits (option_map (λ x. x.now) slot.entry ∷ L) }
+    ensures { Carries (λ n L. n ≡ how_many_misfits L) (option_map (λ x. x.now) slot.entry) misfits.old misfits.new }
 {
     if slot.is_none() {
         *misfits = misfits.saturating_add(1);
@@ -114,7 +114,7 @@ fn note_kind<C>(
     kinds: &mut BTreeMap<SlotKind, u32>,
     slot: Option<&Slot<C>>,
 ) -> Result<(), AllocError>
-    ensures { OnOk result ((L : Log C) → length L < 2 ^ 32 - 1 → TellsKinds kinds.old L → TellsKinds kinds.new (option_map (λ x. x.now) slot.entry ∷ L)) }
+    ensures { OnOk result (Carries TellsKinds (option_map (λ x. x.now) slot.entry) kinds.old kinds.new) }
 {
     if let Some(slot) = slot {
         let count = kinds.entry(slot.kind())?.or_default();
