@@ -69,15 +69,10 @@ last_end_below n found (b ∷ bs) h =
 pub last_end_inside : (bs : List (List ℕ)) → last_end bs ≤ length bs
 last_end_inside bs = omega (arith, last_end_below 1 0 bs (omega arith))
 
--- Power that comes back leaves the forced slots, and all else
+-- Power that comes back leaves the forced slots
 
 pub length_powered_on : (d : Devices) → d.log.forced ≤ log_length d → log_length (powered_on d) ≡ d.log.forced
 length_powered_on d h = length-take-le d.log.forced d.log.slots h
-
-pub powered_on_keeps : (d : Devices)
-    → (size (powered_on d) ≡ size d) × ((powered_on d).log.capacity ≡ d.log.capacity) × ((powered_on d).log.forced ≡ d.log.forced)
-    × ((powered_on d).pages.pages ≡ d.pages.pages)
-powered_on_keeps d = (refl, refl, refl, refl)
 
 -- Bytes as slots
 

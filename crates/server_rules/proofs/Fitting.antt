@@ -1,5 +1,5 @@
 -- A slot that may stand next in a legal log fits at its number, so its bytes read back as that slot; and a page as its bytes. Assumes nothing.
-use Rattle.std.proofs.Common.{◌≡◌, ℕ, zero, suc, ◌+◌, ◌^◌, ◌<◌, ◌≤◌, Bool, true, false, cond, eqb, List, [], ◌∷◌, length, get_or, replicate, Some, None, Option, Result, sym, refl, ap, ◌∙◌, arith}
+use Rattle.std.proofs.Common.{◌≡◌, ℕ, suc, ◌+◌, ◌^◌, ◌<◌, ◌≤◌, Bool, true, false, cond, eqb, List, [], ◌∷◌, length, Some, None, Option, Result, sym, refl, ap, ◌∙◌, arith}
 use Rattle.std.specs.Result.{result_ok}
 use Rattle.std.specs.Str.{bytes_eq}
 use Rattle.std.proofs.lemmas.Slice.Eq.{bytes_eq-Decides}
@@ -17,11 +17,10 @@ use Rattle.format.specs.declared.slot.CheckpointPart.{CheckpointPart}
 use Rattle.format.specs.declared.slot.CheckpointPart.TheVariants.{Begin, DirtyPage, OpenJob, Complete}
 use Rattle.format.specs.Bytes.{Bytes}
 use Rattle.format.specs.Changes.{Meaning, Lawful, Content}
-use Rattle.format.specs.Pages.{page_bytes, page_of, blank_page}
+use Rattle.format.specs.Pages.{page_bytes, page_of}
 use Rattle.format.specs.Slots.{Sized, read_slot, slot_bytes, slot_fields, slot_fits}
 use Rattle.format.proofs.Encoding.{written_reads}
-use Rattle.format.proofs.Numbers.{bytes_spelled, number_small}
-use Rattle.format.proofs.Paged.{page_reads, page_written as page_again}
+use Rattle.format.proofs.Paged.{page_reads}
 use Rattle.device.specs.declared.log_store.LogFault.{LogFault}
 use Rattle.device.specs.LogStores.{LogModel}
 use Rattle.recovery_log.specs.Log.{Log, new_number, is_open, opens, next, next_by, Numbered, rest, pending, pending_by}
@@ -202,38 +201,16 @@ module _ {C : Type 0} (m : Meaning C) where
 
 -- Pages
 
-page_small : (p : Page) → Content p.content → (k : ℕ) → get_or (page_bytes p) k 0 < 256
-page_small p h zero = (bytes_spelled p.lrc).small 0
-page_small p h (suc zero) = (bytes_spelled p.lrc).small 1
-page_small p h (suc (suc zero)) = (bytes_spelled p.lrc).small 2
-page_small p h (suc (suc (suc zero))) = (bytes_spelled p.lrc).small 3
-page_small p h (suc (suc (suc (suc k)))) = h.small k
-
-pub page_sized : (p : Page) → Content p.content → Bytes 256 (page_bytes p)
-page_sized p h = let n = h.size in record { size = omega arith; small = page_small p h }
-
 pub page_written : (p : Page) → p.lrc < 2 ^ 32 → Content p.content → page_of (page_bytes p) ≡ p
 page_written p few h = page_reads p few
 
-pub bytes_paged : (b : List ℕ) → Bytes 256 b → page_bytes (page_of b) ≡ b
-bytes_paged b h = page_again b h
-
--- what 256 bytes hold is a page's content and an LRC of 32 bits
+-- what 256 bytes hold is a page's content
 pub content_of : (b : List ℕ) → Bytes 256 b → Content (page_of b).content
 content_of b h = let n = h.size in record {
   size = length-drop 4 b ∙ omega arith;
   small = λ k. rw (get_or-drop 4 b k 0) (h.small (4 + k));
 }
 
-pub lrc_of : (b : List ℕ) → Bytes 256 b → (page_of b).lrc < 2 ^ 32
-lrc_of b h = number_small b h.small
-
-pub page_of_zeros : page_of (replicate 256 0) ≡ blank_page
-page_of_zeros = refl
-
 -- two images that ship finds the same are one
 pub same_image : (a b : List ℕ) → bytes_eq a b ≡ true → a ≡ b
 same_image a b h = (bytes_eq-Decides a b).0 h
-
-pub image_same : (a b : List ℕ) → a ≡ b → bytes_eq a b ≡ true
-image_same a b h = (bytes_eq-Decides a b).1 h
