@@ -72,14 +72,9 @@ impl PowerPlan {
         ensures loss { result ≡ loss self.old }
     {
         self.operations = self.operations.saturating_add(1);
-        let loss = self.loss.take()?;
-        match loss.after.checked_sub(1) {
-            Some(after) => {
-                self.loss = Some(Loss { after, ..loss });
-                None
-            }
-            None => Some(loss.choice),
-        }
+        let loss = self.loss?;
+        self.loss = Loss::at(loss.after, loss.choice);
+        (loss.after == 0).then_some(loss.choice)
     }
 }
 
