@@ -82,13 +82,13 @@ impl Choice {
     pub fn keeps_old(self) -> bool
         ensures { result ≡ keeps_old self }
     {
-        matches!(self, Choice::Old)
+        self == Choice::Old
     }
 
     pub fn stops_before(self) -> bool
         ensures { result ≡ stops_before self }
     {
-        matches!(self, Choice::Before)
+        self == Choice::Before
     }
 
     // How many unforced slots a lost force leaves forced.

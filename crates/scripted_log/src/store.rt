@@ -76,7 +76,7 @@ impl ScriptedLog {
         ensures after { model self.new ≡ left_by_append loss raise (model self.old) bytes.now }
     {
         let fault = LogFault::PowerLost(self.slots() + 1);
-        if loss.is_none_or(|choice| !choice.stops_before()) {
+        if loss != Some(Choice::Before) {
             self.put_raised(bytes, raise);
         }
         match loss {

@@ -58,7 +58,7 @@ impl ScriptedPages {
         ensures value { result ≡ answered loss (PageFault.PowerLost page) }
         ensures after { model self.new ≡ left_by_write loss (model self.old) page bytes.now }
     {
-        if loss.is_none_or(|choice| !choice.keeps_old()) {
+        if loss != Some(Choice::Old) {
             self.pages[page as usize] = *bytes;
         }
         match loss {
