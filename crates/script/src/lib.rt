@@ -4,5 +4,5 @@
 mod plan;
 mod script;
 
-pub use plan::{Choice, Loss, PowerPlan};
+pub use plan::{Choice, Loss, PowerPlan, answer};
 pub use script::Script;

@@ -1,6 +1,6 @@
 // A plan for the operations to come: in which of them power is lost, what that leaves, how far appends raise the forced count.
-ghost use Rattle.std.specs.Prelude.{◌≡◌};
-ghost use Rattle.script.specs.ScriptedPlans.{lost_at, planned, advanced, loss, keeps_old, stops_before, standing};
+ghost use Rattle.std.specs.Prelude.{◌≡◌, is_none, if◌then◌else◌, false};
+ghost use Rattle.script.specs.ScriptedPlans.{lost_at, planned, advanced, loss, keeps_old, stops_before, standing, answered};
 
 // What a loss of power leaves. Each kind of operation reads it in its own way, since a plan does not know which it will meet.
 #[derive(Clone, Copy, Debug, PartialEq, Eq)]
@@ -98,6 +98,20 @@ impl Choice {
         match self {
             Choice::Count(slots) => slots,
             Choice::Old | Choice::New | Choice::Before | Choice::After => 0,
+        }
+    }
+}
+
+// What an operation of a device answers: a loss in it takes the power, and is this fault.
+pub fn answer<F: Copy>(loss: Option<Choice>, powered: &mut bool, fault: F) -> Result<(), F>
+    ensures value { result ≡ answered loss fault }
+    ensures power { powered.new ≡ (if is_none loss then powered.old else false) }
+{
+    match loss {
+        None => Ok(()),
+        Some(_) => {
+            *powered = false;
+            Err(fault)
         }
     }
 }

@@ -6,7 +6,7 @@ ghost use Rattle.scripted_log.specs.ScriptedLog.{model};
 
 use crate::ScriptedLog;
 use device::{LogFault, LogStore};
-use script::Choice;
+use script::{Choice, answer};
 
 impl LogStore for ScriptedLog {
     ghost model = { model };
@@ -79,13 +79,7 @@ impl ScriptedLog {
         if loss != Some(Choice::Before) {
             self.put_raised(bytes, raise);
         }
-        match loss {
-            None => Ok(()),
-            Some(_) => {
-                self.powered = false;
-                Err(fault)
-            }
-        }
+        answer(loss, &mut self.powered, fault)
     }
 
     // Puts a slot at the end and raises the forced count, at most to the length.
@@ -103,16 +97,10 @@ impl ScriptedLog {
         ensures after { model self.new ≡ left_by_force loss (model self.old) }
     {
         let last = self.slots();
-        match loss {
-            None => {
-                self.forced = last;
-                Ok(())
-            }
-            Some(choice) => {
-                self.powered = false;
-                self.forced = self.forced.saturating_add(choice.standing()).min(last);
-                Err(LogFault::PowerLost(last))
-            }
-        }
+        self.forced = match loss {
+            None => last,
+            Some(choice) => self.forced.saturating_add(choice.standing()).min(last),
+        };
+        answer(loss, &mut self.powered, LogFault::PowerLost(last))
     }
 }

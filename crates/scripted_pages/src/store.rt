@@ -5,7 +5,7 @@ ghost use Rattle.scripted_pages.specs.ScriptedPages.{model};
 
 use crate::ScriptedPages;
 use device::{PageFault, PageStore};
-use script::Choice;
+use script::{Choice, answer};
 
 impl PageStore for ScriptedPages {
     ghost model = { model };
@@ -61,12 +61,6 @@ impl ScriptedPages {
         if loss != Some(Choice::Old) {
             self.pages[page as usize] = *bytes;
         }
-        match loss {
-            None => Ok(()),
-            Some(_) => {
-                self.powered = false;
-                Err(PageFault::PowerLost(page))
-            }
-        }
+        answer(loss, &mut self.powered, PageFault::PowerLost(page))
     }
 }
