@@ -5,7 +5,7 @@ ghost use Rattle.script.specs.ScriptedPlans.{answered, with_raise, left_by_appen
 ghost use Rattle.scripted_log.specs.ScriptedLog.{model};
 
 use crate::ScriptedLog;
-use device::{LogFault, LogStore};
+use device::{LogFault, LogStore, check_power};
 use script::{Choice, answer};
 
 impl LogStore for ScriptedLog {
@@ -22,24 +22,18 @@ impl LogStore for ScriptedLog {
     }
 
     fn len(&self) -> Result<u32, LogFault> {
-        if !self.powered {
-            return Err(LogFault::PowerLost(0));
-        }
+        check_power(self.powered, LogFault::PowerLost(0))?;
         Ok(self.slots())
     }
 
     fn read(&self, slot: u32) -> Result<[u8; 60], LogFault> {
-        if !self.powered {
-            return Err(LogFault::PowerLost(slot));
-        }
+        check_power(self.powered, LogFault::PowerLost(slot))?;
         self.slot(slot).copied().ok_or(LogFault::Outside)
     }
 
     fn append(&mut self, bytes: &[u8; 60]) -> Result<(), LogFault> {
         let last = self.slots();
-        if !self.powered {
-            return Err(LogFault::PowerLost(last + 1));
-        }
+        check_power(self.powered, LogFault::PowerLost(last + 1))?;
         if last >= self.capacity() {
             return Err(LogFault::Full);
         }
@@ -49,9 +43,7 @@ impl LogStore for ScriptedLog {
     }
 
     fn force(&mut self) -> Result<(), LogFault> {
-        if !self.powered {
-            return Err(LogFault::PowerLost(self.slots()));
-        }
+        check_power(self.powered, LogFault::PowerLost(self.slots()))?;
         let loss = self.script.operation();
         self.force_or_lose(loss)
     }

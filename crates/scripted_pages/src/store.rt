@@ -4,7 +4,7 @@ ghost use Rattle.script.specs.ScriptedPlans.{answered, left_by_write};
 ghost use Rattle.scripted_pages.specs.ScriptedPages.{model};
 
 use crate::ScriptedPages;
-use device::{PageFault, PageStore};
+use device::{PageFault, PageStore, check_power};
 use script::{Choice, answer};
 
 impl PageStore for ScriptedPages {
@@ -21,9 +21,7 @@ impl PageStore for ScriptedPages {
     }
 
     fn read(&self, page: u32) -> Result<[u8; 256], PageFault> {
-        if !self.powered {
-            return Err(PageFault::PowerLost(page));
-        }
+        check_power(self.powered, PageFault::PowerLost(page))?;
         self.pages
             .get(page as usize)
             .copied()
@@ -31,9 +29,7 @@ impl PageStore for ScriptedPages {
     }
 
     fn write(&mut self, page: u32, bytes: &[u8; 256]) -> Result<(), PageFault> {
-        if !self.powered {
-            return Err(PageFault::PowerLost(page));
-        }
+        check_power(self.powered, PageFault::PowerLost(page))?;
         if page >= self.size() {
             return Err(PageFault::Outside);
         }

@@ -1,4 +1,4 @@
-use Rattle.std.proofs.Common.{◌≡◌, ℕ, ◌+◌, ◌<◌, ◌≤◌, min, Bool, true, false, cond, List, length, Some, None, Err, Option, refl, arith}
+use Rattle.std.proofs.Common.{◌≡◌, ℕ, ◌+◌, ◌<◌, ◌≤◌, min, Bool, true, false, cond, List, length, Some, None, Err, Option, refl, arith, rules}
 use Rattle.device.specs.LogStores.{LogModel, SlotAppended, state, new_slot}
 use Rattle.device.specs.declared.log_store.LogFault.TheVariants.{PowerLost}
 use Rattle.script.specs.ScriptedPlans.{answered, with_raise, left_by_append, stops_before}
@@ -19,4 +19,4 @@ pub returns : goal.returns
 returns c =
     let now = c.args.self.now in
     let put = c.append_or_lose.ensures in
-    rw (put.value, put.after) (appended_by_plan (model now) c.args.bytes.now c.raise-raise.result c.if-not-self.false (omega arith) now.sound.held c.operation-loss.result)
+    rw (put.value, put.after) (appended_by_plan (model now) c.args.bytes.now c.raise-raise.result (search rules) (omega arith) now.sound.held c.operation-loss.result)

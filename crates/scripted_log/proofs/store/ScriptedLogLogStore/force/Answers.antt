@@ -1,4 +1,4 @@
-use Rattle.std.proofs.Common.{◌≡◌, ◌+◌, ◌≤◌, min, true, length, Some, None, Option, refl, arith}
+use Rattle.std.proofs.Common.{◌≡◌, ◌+◌, ◌≤◌, min, true, length, Some, None, Option, refl, arith, rules}
 use Rattle.device.specs.LogStores.{LogModel, LogForced}
 use Rattle.device.specs.declared.log_store.LogFault.TheVariants.{PowerLost}
 use Rattle.script.specs.ScriptedPlans.{answered, left_by_force, standing}
@@ -13,5 +13,5 @@ forced_by_plan m (Some c) power held = LogForced.lost power (min (m.forced + sta
 
 pub returns : goal.returns
 returns c =
-    let outcome = forced_by_plan (model c.args.self.now) c.operation-loss.result c.if-not-self.false c.args.self.now.sound.held in
+    let outcome = forced_by_plan (model c.args.self.now) c.operation-loss.result (search rules) c.args.self.now.sound.held in
     rw (c.force_or_lose.ensures.value, c.force_or_lose.ensures.after) outcome
