@@ -5,11 +5,9 @@ ghost use Rattle.scripted_log.specs.ScriptedLog.{model};
 ghost use Rattle.scripted_log.specs.ScriptedTools.{slot_at, has_slot, with_slot_set, with_slot_forced, without_power};
 
 use crate::ScriptedLog;
-use device::{LogFault, LogStore};
+use device::{LogFault, LogStore, MOST_SLOTS};
 use script::Script;
 use std::alloc::{AllocError, Global};
-
-const MOST_SLOTS: u32 = 4_294_967_294;
 
 impl ScriptedLog {
     // An empty log with power; its capacity is at most 4,294,967,294.

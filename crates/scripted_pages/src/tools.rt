@@ -5,11 +5,9 @@ ghost use Rattle.device.specs.PageStores.{with_page, without_power};
 ghost use Rattle.scripted_pages.specs.ScriptedPages.{model};
 
 use crate::ScriptedPages;
-use device::PageFault;
+use device::{MOST_PAGES, PageFault};
 use script::Script;
 use std::alloc::{AllocError, Global};
-
-const MOST_PAGES: u32 = 65_536;
 
 impl ScriptedPages {
     // Blank pages with power, at most 65,536.
