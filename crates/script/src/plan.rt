@@ -16,7 +16,7 @@ pub enum Choice {
 }
 
 // A loss of power to come. Counted are writes, appends and forces of both devices together, each where there is power, and the page or
-// the room for the slot.
+// the room for the slot. Its twin is battery memory's `PowerCut`: one generic type would lose the names of what is left, and this counts in 32 bits.
 #[derive(Clone, Copy, Debug, PartialEq, Eq)]
 pub struct Loss {
     // How many operations still succeed before the one in which power is lost.
