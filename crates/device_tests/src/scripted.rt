@@ -29,7 +29,7 @@ impl<P: PageStore, L: LogStore> Devices<P, L> {
 #[test]
 fn a_write_lost_old_and_one_lost_new(rt: HostRuntime) -> Result<(), Fail> {
     let script = Script::new(rt.alloc())?;
-    let mut pages = ScriptedPages::new(rt.alloc(), 2, script.handle()?)?;
+    let mut pages = ScriptedPages::new(rt.alloc(), 2, script.clone()?)?;
     script.set(PowerPlan::new(Loss::at(2, Choice::Old), 0));
     assert_eq!(rt; pages.write(0, &[1; 256]), Ok(()));
     assert_eq!(rt; pages.write(1, &[2; 256]), Err(PageFault::PowerLost(1)));
@@ -50,7 +50,7 @@ fn a_write_lost_old_and_one_lost_new(rt: HostRuntime) -> Result<(), Fail> {
 #[test]
 fn appends_lost_before_and_after_and_a_lost_force(rt: HostRuntime) -> Result<(), Fail> {
     let script = Script::new(rt.alloc())?;
-    let mut log = ScriptedLog::new(rt.alloc(), 4096, script.handle()?)?;
+    let mut log = ScriptedLog::new(rt.alloc(), 4096, script.clone()?)?;
     script.set(PowerPlan::new(Loss::at(2, Choice::Before), 1));
     assert_eq!(rt; log.append(&[1; 60]), Ok(()));
     assert_eq!(rt; log.append(&[2; 60]), Err(LogFault::PowerLost(2)));
@@ -74,8 +74,8 @@ fn appends_lost_before_and_after_and_a_lost_force(rt: HostRuntime) -> Result<(),
 #[test]
 fn one_count_over_both_devices(rt: HostRuntime) -> Result<(), Fail> {
     let script = Script::new(rt.alloc())?;
-    let pages = ScriptedPages::new(rt.alloc(), 2, script.handle()?)?;
-    let log = ScriptedLog::new(rt.alloc(), 2, script.handle()?)?;
+    let pages = ScriptedPages::new(rt.alloc(), 2, script.clone()?)?;
+    let log = ScriptedLog::new(rt.alloc(), 2, script.clone()?)?;
     let mut devices = Devices { pages, log };
     script.set(PowerPlan::new(Loss::at(2, Choice::After), 1));
     devices.write_append_force();

@@ -5,7 +5,8 @@ use std::alloc::{AllocError, Global};
 use std::cell::Cell;
 use std::rc::Rc;
 
-#[derive(Drop)]
+// A clone is another handle to the same plan.
+#[derive(Clone, Drop)]
 pub struct Script {
     plan: Rc<Cell<PowerPlan>>,
 }
@@ -14,12 +15,6 @@ impl Script {
     // A script by which power is never lost and appends leave the forced count.
     pub fn new(heap: Global) -> Result<Script, AllocError> {
         let plan = Rc::new(heap, Cell::new(PowerPlan::new(None, 0)))?;
-        Ok(Script { plan })
-    }
-
-    // Another handle to the same plan. Not `Clone`: a clone would be taken for a plan of its own.
-    pub fn handle(&self) -> Result<Script, AllocError> {
-        let plan = self.plan.clone()?;
         Ok(Script { plan })
     }
 
