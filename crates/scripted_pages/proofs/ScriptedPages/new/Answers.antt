@@ -1,13 +1,9 @@
-use Rattle.std.proofs.Common.{◌≡◌, ℕ, zero, suc, ◌<◌, ◌≤◌, Bool, List, [], get_or, replicate, refl, arith, lit<}
+use Rattle.std.proofs.Common.{◌≡◌, ℕ, ◌<◌, ◌≤◌, Bool, List, [], replicate, refl, arith}
 use Rattle.std.proofs.lemmas.Grind.{common_steps}
 use Rattle.std.proofs.lemmas.List.{get_or-replicate, length-replicate}
+use Rattle.format.proofs.Rows.{small_zeros}
 use Rattle.device.specs.PageStores.{SoundPages}
 use Rattle.scripted_pages.proofs.ScriptedPages.new.Goals as goal
-
-small_zeros : (w k : ℕ) → get_or (replicate w 0) k 0 < 256
-small_zeros zero k = lit< tt
-small_zeros (suc w) zero = lit< tt
-small_zeros (suc w) (suc k) = small_zeros w k
 
 blank_sound : (n : ℕ) (page : List ℕ) (pages : List (List ℕ)) (powered : Bool) → page ≡ replicate 256 0 → pages ≡ replicate n page → n ≤ 65536
     → SoundPages (record { pages = pages; powered = powered })
