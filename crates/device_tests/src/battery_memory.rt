@@ -6,9 +6,9 @@ use device::{LogFault, LogStore, PageFault, PageStore};
 fn written(at: u64, stands: u32) -> [u8; 3] {
     let mut memory = [[0; 256]; 3];
     let mut store = battery_pages(&mut memory, PowerCut::at(at, stands));
-    let _ = store.write(0, &[1; 256]);
-    let _ = store.write(1, &[1; 256]);
-    let _ = store.write(2, &[1; 256]);
+    for page in 0..3 {
+        let _ = store.write(page, &[1; 256]);
+    }
     [memory[0][0], memory[1][128], memory[2][255]]
 }
 

@@ -37,12 +37,12 @@ fn pages_of_any_bytes_are_a_log(rt: HostRuntime) {
     let mut memory = [[9; 256], old_page(1)];
     let mut log = PagedLog::new(battery_pages(&mut memory, None));
     assert_eq!(rt; log.len(), Ok(5));
-    assert!(rt; log.append(&[5; 60]).is_ok());
+    assert_eq!(rt; log.append(&[5; 60]), Ok(()));
     drop(log);
     let mut page = old_page(2);
     page[4..16].copy_from_slice(&[0; 12]);
     page[76..136].copy_from_slice(&[5; 60]);
-    assert!(rt; memory[1] == page);
+    assert_eq!(rt; memory[1], page);
 }
 
 #[test]
@@ -56,13 +56,13 @@ fn a_log_over_a_span(rt: HostRuntime) {
     ));
     assert_eq!(rt; log.capacity(), 8);
     for i in 1..5 {
-        assert!(rt; log.append(&[i; 60]).is_ok());
+        assert_eq!(rt; log.append(&[i; 60]), Ok(()));
     }
     assert_eq!(rt; log.append(&[5; 60]), Err(LogFault::PowerLost(5)));
     assert_eq!(rt; log.force(), Err(LogFault::PowerLost(5)));
     log.power_on();
     assert_eq!(rt; log.len(), Ok(4));
-    assert!(rt; log.append(&[6; 60]).is_ok());
+    assert_eq!(rt; log.append(&[6; 60]), Ok(()));
     assert_eq!(rt; log.len(), Ok(5));
 }
 
@@ -70,7 +70,7 @@ fn a_log_over_a_span(rt: HostRuntime) {
 fn an_append_writes_two_pages_at_most(rt: HostRuntime) {
     let mut memory = [old_page(4), old_page(3), old_page(0), old_page(0)];
     let mut log = PagedLog::new(Counting::new(battery_pages(&mut memory, None)));
-    assert!(rt; log.append(&[5; 60]).is_ok());
+    assert_eq!(rt; log.append(&[5; 60]), Ok(()));
     let pages = log.into_pages();
     assert_eq!(rt; pages.reads(), 4);
     assert_eq!(rt; pages.writes(), 2);
