@@ -16,7 +16,8 @@ pub enum Choice {
 }
 
 // A loss of power to come. Counted are writes, appends and forces of both devices together, each where there is power, and the page or
-// the room for the slot. Its twin is battery memory's `PowerCut`: one generic type would lose the names of what is left, and this counts in 32 bits.
+// the room for the slot.
+// Battery memory has its own, `PowerCut`: one generic struct for both would lose the names of what is left, and a script counts in 32 bits.
 #[derive(Clone, Copy, Debug, PartialEq, Eq)]
 pub struct Loss {
     // How many operations still succeed before the one in which power is lost.
@@ -102,7 +103,7 @@ impl Choice {
     }
 }
 
-// What an operation of a device answers: a loss in it takes the power, and is this fault.
+// What an operation of a device answers, given the loss in it, if any: that takes the power, and the answer is this fault.
 pub fn answer<F: Copy>(loss: Option<Choice>, powered: &mut bool, fault: F) -> Result<(), F>
     ensures value { result ≡ answered loss fault }
     ensures power { powered.new ≡ (if is_none loss then powered.old else false) }
