@@ -1,7 +1,7 @@
 // Battery memory: a store in memory that its owner lends, whose power is lost at most once, where its maker sets it.
 #![tactic(auto)]
 
-ghost use Rattle.std.specs.Prelude.{◌≡◌, ◌<◌, ◌≤◌, ◌==◌, min, if◌then◌else◌, Ok, Err, length, take, slice_get};
+ghost use Rattle.std.specs.Prelude.{◌≡◌, ◌<◌, ◌≤◌, ◌==◌, min, length, take, slice_get};
 
 mod owners;
 mod pages;
@@ -72,12 +72,6 @@ impl<E: Copy, const MOST: usize> Battery<'_, E, MOST> {
         ensures { result ≡ room (held self.now) }
     {
         self.cells.len().min(MOST)
-    }
-
-    fn check_power<F: Copy>(&self, lost: F) -> Result<(), F>
-        ensures { result ≡ (if self.now.powered then Ok tt else Err lost) }
-    {
-        if self.powered { Ok(()) } else { Err(lost) }
     }
 
     fn get(&self, place: usize) -> Option<E>

@@ -7,7 +7,7 @@ ghost use Rattle.battery.specs.BatteryStores.{pages_model, most_pages, BatteryWr
 ghost use Rattle.battery.specs.BatterySound.{sound_pages};
 
 use crate::{Battery, PowerCut};
-use device::{PageFault, PageStore};
+use device::{PageFault, PageStore, check_power};
 
 // Pages are numbered below 65,536.
 const MOST_PAGES: usize = 65_536;
@@ -44,7 +44,7 @@ impl PageStore for BatteryPages<'_> {
     fn read(&self, page: u32) -> Result<[u8; 256], PageFault>
         ensures { PageRead (pages_model (held self.now)) page result }
     {
-        self.check_power(PageFault::PowerLost(page))?;
+        check_power(self.powered, PageFault::PowerLost(page))?;
         self.get(page as usize).ok_or(PageFault::Outside)
     }
 
@@ -53,13 +53,13 @@ impl PageStore for BatteryPages<'_> {
         ensures rule { BatteryWrote (held self.old) page bytes.now result (held self.new) }
     {
         let lost = PageFault::PowerLost(page);
-        self.check_power(lost)?;
+        check_power(self.powered, lost)?;
         let place = page as usize;
         if place >= self.used {
             return Err(PageFault::Outside);
         }
         self.write_one(place, bytes);
-        self.check_power(lost)
+        check_power(self.powered, lost)
     }
 
     fn power_on(&mut self)

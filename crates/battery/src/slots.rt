@@ -6,7 +6,7 @@ ghost use Rattle.battery.specs.BatteryStores.{log_model, most_slots, BatteryAppe
 ghost use Rattle.battery.specs.BatterySound.{sound_log};
 
 use crate::{Battery, PowerCut};
-use device::{LogFault, LogStore};
+use device::{LogFault, LogStore, check_power};
 
 // So that the number after the last slot fits four bytes.
 const MOST_SLOTS: usize = 4_294_967_294;
@@ -42,14 +42,14 @@ impl LogStore for BatteryLog<'_> {
     fn len(&self) -> Result<u32, LogFault>
         ensures { LengthRead (log_model (held self.now)) result }
     {
-        self.check_power(LogFault::PowerLost(0))?;
+        check_power(self.powered, LogFault::PowerLost(0))?;
         Ok(self.used as u32)
     }
 
     fn read(&self, slot: u32) -> Result<[u8; 60], LogFault>
         ensures { SlotRead (log_model (held self.now)) slot result }
     {
-        self.check_power(LogFault::PowerLost(slot))?;
+        check_power(self.powered, LogFault::PowerLost(slot))?;
         let place = slot.checked_sub(1).ok_or(LogFault::Outside)?;
         self.get(place as usize).ok_or(LogFault::Outside)
     }
@@ -59,7 +59,7 @@ impl LogStore for BatteryLog<'_> {
         ensures rule { BatteryAppended (held self.old) bytes.now result (held self.new) }
     {
         let lost = LogFault::PowerLost(self.used as u32 + 1);
-        self.check_power(lost)?;
+        check_power(self.powered, lost)?;
         if self.used >= self.room() {
             return Err(LogFault::Full);
         }
@@ -72,9 +72,9 @@ impl LogStore for BatteryLog<'_> {
         ensures rule { BatteryForced (held self.old) result (held self.new) }
     {
         let lost = LogFault::PowerLost(self.used as u32);
-        self.check_power(lost)?;
+        check_power(self.powered, lost)?;
         self.force_used();
-        self.check_power(lost)
+        check_power(self.powered, lost)
     }
 
     fn power_on(&mut self)
