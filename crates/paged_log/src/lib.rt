@@ -60,10 +60,6 @@ impl<P: PageStore> PagedLog<P> {
     fn check_power(&self, slot: u32) -> Result<(), LogFault>
         ensures { result ≡ (if (P.PageStore.model self.now.pages).powered then Ok tt else Err (LogFault.PowerLost slot)) }
     {
-        if self.pages.is_powered() {
-            Ok(())
-        } else {
-            Err(LogFault::PowerLost(slot))
-        }
+        device::check_power(self.pages.is_powered(), LogFault::PowerLost(slot))
     }
 }
