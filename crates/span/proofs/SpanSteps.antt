@@ -5,7 +5,10 @@ use Rattle.std.proofs.Math.Seq.{take-set-lt}
 use Rattle.std.proofs.lemmas.Bool.{both_ways, and_parts, and_right}
 use Rattle.device.specs.declared.page_store.PageFault.{PageFault}
 use Rattle.device.specs.PageStores.{PageModel, PageRead, PageWritten, with_page, without_power, fault_at}
+use Rattle.span.specs.declared.Half.{Half}
+use Rattle.span.specs.declared.Half.TheVariants.{First, Second}
 use Rattle.span.specs.Spans.{joined}
+use Rattle.span.specs.Halves.{Found}
 
 -- a fault of the second half names the page of the span
 abbrev pub at_page : {T : Type 0} → Result T PageFault → ℕ → Result T PageFault
@@ -17,6 +20,21 @@ joined_size a b = length-take 65536 (a.pages ++ b.pages) ∙ ap (λ n. min 65536
 
 never : {P : Type 0} (b : Bool) → b ≡ true → b ≡ false → P
 never b t f = absurd (both_ways b f t)
+
+-- where the page was found
+pub in_first : (a b : PageModel) (at : ℕ) (r : Result Half PageFault) → Found a b at r → r ≡ Ok First
+    → ((joined a b).powered ≡ true) × (at < length (joined a b).pages) × (at < length a.pages)
+in_first a b at r (Found.no_power off e) is = absurd cc
+in_first a b at r (Found.outside on past e) is = absurd cc
+in_first a b at r (Found.first on inside low e) is = (on, inside, low)
+in_first a b at r (Found.second on inside high e) is = absurd cc
+
+pub in_second : (a b : PageModel) (at n : ℕ) (r : Result Half PageFault) → Found a b at r → r ≡ Ok (Second n)
+    → ((joined a b).powered ≡ true) × (at < length (joined a b).pages) × (length a.pages ≤ at) × (n ≡ at - length a.pages)
+in_second a b at n r (Found.no_power off e) is = absurd cc
+in_second a b at n r (Found.outside on past e) is = absurd cc
+in_second a b at n r (Found.first on inside low e) is = absurd cc
+in_second a b at n r (Found.second on inside high e) is = (on, inside, high, cc)
 
 -- both have power, and the page is one of the span's
 module _ (a b : PageModel) (on : (joined a b).powered ≡ true) (at : ℕ) (inside : at < length (joined a b).pages) where

@@ -4,16 +4,21 @@
 ghost use Rattle.std.specs.Prelude.{◌≡◌, length};
 ghost use Rattle.device.specs.PageStores.{PageRead, PageWritten, powered_on};
 ghost use Rattle.span.specs.Spans.{joined, joined_sound};
+ghost use Rattle.span.specs.Halves.{Found};
 
-use device::{PageFault, PageStore};
-
-// The largest size of a page store.
-const MOST_PAGES: u32 = 65536;
+use device::{MOST_PAGES, PageFault, PageStore, check_power};
 
 #[derive(Drop)]
 pub struct Span<A, B> {
     pub first: A,
     pub second: B,
+}
+
+// The half that has a page; of the second it is page n.
+#[derive(Clone, Copy)]
+enum Half {
+    First,
+    Second(u32),
 }
 
 impl<A, B> Span<A, B> {
@@ -40,39 +45,38 @@ impl<A: PageStore, B: PageStore> PageStore for Span<A, B> {
     }
 
     fn read(&self, page: u32) -> Result<[u8; 256], PageFault> {
-        if !self.is_powered() {
-            return Err(PageFault::PowerLost(page));
+        match self.find(page)? {
+            Half::First => self.first.read(page),
+            Half::Second(n) => self.second.read(n).map_err(|fault| fault.at(page)),
         }
-        if page >= self.size() {
-            return Err(PageFault::Outside);
-        }
-        let first = self.first.size();
-        if page < first {
-            return self.first.read(page);
-        }
-        self.second
-            .read(page - first)
-            .map_err(|fault| fault.at(page))
     }
 
     fn write(&mut self, page: u32, bytes: &[u8; 256]) -> Result<(), PageFault> {
-        if !self.is_powered() {
-            return Err(PageFault::PowerLost(page));
+        match self.find(page)? {
+            Half::First => self.first.write(page, bytes),
+            Half::Second(n) => self.second.write(n, bytes).map_err(|fault| fault.at(page)),
         }
-        if page >= self.size() {
-            return Err(PageFault::Outside);
-        }
-        let first = self.first.size();
-        if page < first {
-            return self.first.write(page, bytes);
-        }
-        self.second
-            .write(page - first, bytes)
-            .map_err(|fault| fault.at(page))
     }
 
     fn power_on(&mut self) {
         self.first.power_on();
         self.second.power_on();
+    }
+}
+
+impl<A: PageStore, B: PageStore> Span<A, B> {
+    fn find(&self, page: u32) -> Result<Half, PageFault>
+        ensures { Found (A.PageStore.model self.now.first) (B.PageStore.model self.now.second) page result }
+    {
+        check_power(self.is_powered(), PageFault::PowerLost(page))?;
+        if page >= self.size() {
+            return Err(PageFault::Outside);
+        }
+        let first = self.first.size();
+        if page < first {
+            Ok(Half::First)
+        } else {
+            Ok(Half::Second(page - first))
+        }
     }
 }
