@@ -9,10 +9,9 @@ ghost use Rattle.battery.specs.BatterySound.{sound_pages};
 use crate::{Battery, PowerCut};
 use device::{PageFault, PageStore, check_power};
 
-// Pages are numbered below 65,536.
-const MOST_PAGES: usize = 65_536;
+const MOST: usize = device::MOST_PAGES as usize;
 
-pub type BatteryPages<'a> = Battery<'a, [u8; 256], MOST_PAGES>;
+pub type BatteryPages<'a> = Battery<'a, [u8; 256], MOST>;
 
 // The pages are as found in the memory, of which there may be 65,536.
 pub fn battery_pages<'a>(memory: &'a mut [[u8; 256]], cut: Option<PowerCut>) -> BatteryPages<'a>
@@ -20,7 +19,7 @@ pub fn battery_pages<'a>(memory: &'a mut [[u8; 256]], cut: Option<PowerCut>) -> 
     ensures rule { held result ≡ made memory.entry.ghost_name memory.old (min (length memory.old) most_pages) cut }
     ensures once { LostOnce cut }
 {
-    let used = memory.len().min(MOST_PAGES);
+    let used = memory.len().min(MOST);
     Battery::new(memory, used, cut)
 }
 

@@ -8,10 +8,9 @@ ghost use Rattle.battery.specs.BatterySound.{sound_log};
 use crate::{Battery, PowerCut};
 use device::{LogFault, LogStore, check_power};
 
-// So that the number after the last slot fits four bytes.
-const MOST_SLOTS: usize = 4_294_967_294;
+const MOST: usize = device::MOST_SLOTS as usize;
 
-pub type BatteryLog<'a> = Battery<'a, [u8; 60], MOST_SLOTS>;
+pub type BatteryLog<'a> = Battery<'a, [u8; 60], MOST>;
 
 // The log starts empty, whatever the memory holds.
 pub fn battery_log<'a>(memory: &'a mut [[u8; 60]], cut: Option<PowerCut>) -> BatteryLog<'a>
