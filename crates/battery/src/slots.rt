@@ -26,28 +26,20 @@ impl LogStore for BatteryLog<'_> {
 
     ghost sound = { λ s. sound_log (held s) s.in_room s.in_used };
 
-    fn capacity(&self) -> u32
-        ensures { result ≡ (log_model (held self.now)).capacity }
-    {
+    fn capacity(&self) -> u32 {
         self.room() as u32
     }
 
-    fn is_powered(&self) -> bool
-        ensures { result ≡ (log_model (held self.now)).powered }
-    {
+    fn is_powered(&self) -> bool {
         self.powered
     }
 
-    fn len(&self) -> Result<u32, LogFault>
-        ensures { LengthRead (log_model (held self.now)) result }
-    {
+    fn len(&self) -> Result<u32, LogFault> {
         check_power(self.powered, LogFault::PowerLost(0))?;
         Ok(self.used as u32)
     }
 
-    fn read(&self, slot: u32) -> Result<[u8; 60], LogFault>
-        ensures { SlotRead (log_model (held self.now)) slot result }
-    {
+    fn read(&self, slot: u32) -> Result<[u8; 60], LogFault> {
         check_power(self.powered, LogFault::PowerLost(slot))?;
         let place = slot.checked_sub(1).ok_or(LogFault::Outside)?;
         self.get(place as usize).ok_or(LogFault::Outside)
