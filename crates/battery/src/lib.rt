@@ -13,6 +13,7 @@ pub use slots::{BatteryLog, battery_log};
 
 // Power is lost after so many writes (pages) or forces (log) with power, in the next one; of the new elements that
 // this one brings so many stand: all, if it brings fewer.
+// The script's `Loss` counts other operations and leaves other things; one generic struct for both would lose the names of what is left.
 #[derive(Clone, Copy)]
 pub struct PowerCut {
     pub after: u64,
@@ -28,6 +29,7 @@ pub struct Battery<'a, E, const MOST: usize> {
     forced: usize,
     ghost in_room: { used ≤ min (length cells.now) MOST },
     ghost in_used: { forced ≤ used },
+    // With no cut to come there may be power or not: it may have been lost in the cut, and have come back since.
     powered: bool,
     // The loss of power to come, if any.
     cut: Option<PowerCut>,
