@@ -13,10 +13,7 @@ pub(crate) fn end<P: PageStore>(pages: &P) -> u32
 {
     let size = pages.size();
     for at in 0..size {
-        let Ok(bytes) = pages.read(at) else {
-            return 0;
-        };
-        let count = page::count(&bytes);
+        let count = page::count(&pages.read(at).unwrap());
         if count < 4 {
             return 4 * at + count;
         }
@@ -29,9 +26,7 @@ pub(crate) fn stands<P: PageStore>(pages: &P, n: u32, slot: &[u8; 60]) -> bool
     requires { ((P.PageStore.model pages.now).powered ≡ true) × (n < room (P.PageStore.model pages.now)) }
     ensures { result ≡ stands (P.PageStore.model pages.now).pages n slot.now }
 {
-    let Ok(bytes) = pages.read(n / 4) else {
-        return false;
-    };
+    let bytes = pages.read(n / 4).unwrap();
     let place = (n % 4) as usize;
     if place >= page::count(&bytes) as usize {
         return false;
