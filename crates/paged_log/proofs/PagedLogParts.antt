@@ -1,14 +1,25 @@
 -- A log page as the code cuts it.
-use Rattle.std.proofs.Common.{◌≡◌, ℕ, suc, ◌+◌, ◌-◌, ◌*◌, ◌<◌, List, ◌++◌, length, take, drop, replicate, sym, ap, ◌∙◌, add-one, arith}
+use Rattle.std.proofs.Common.{◌≡◌, ℕ, zero, suc, ◌+◌, ◌-◌, ◌*◌, ◌/◌, ◌<◌, List, [], ◌++◌, length, get_or, take, drop, replicate, sym, refl, ap, ◌∙◌, add-one, arith}
 use borrow.Rule.Slice.PartMut.{put_mid}
-use Rattle.std.proofs.lemmas.List.{drop-drop, drop-take, drop-append-le, length-take-le}
+use Rattle.std.proofs.lemmas.List.{drop-drop, drop-take, drop-append-le, length-take-le, length-take, length-drop, take_all}
+use Rattle.std.specs.Simd.{first_chunks}
 use Rattle.format.specs.Bytes.{spelled}
 use Rattle.paged_log.specs.PagedLogs.{slot_in, page_with}
 
-pub slot_part : (page : List ℕ) (place : ℕ) → take ((16 + 60 * place + 60) - (16 + 60 * place)) (drop (16 + 60 * place) page) ≡ slot_in page place
-slot_part page place =
-    let n : (16 + 60 * place + 60) - (16 + 60 * place) ≡ 60 = omega arith in
-    ap (λ (k : ℕ). take k (drop (16 + 60 * place) page)) n ∙ ap (take 60) (sym (drop-drop (60 * place) 16 page))
+chunk_at : (chunks k : ℕ) (xs : List ℕ) → k < chunks → get_or (first_chunks 60 chunks xs) k [] ≡ take 60 (drop (60 * k) xs)
+chunk_at zero k xs h = absurd (omega arith)
+chunk_at (suc chunks) zero xs h = refl
+chunk_at (suc chunks) (suc k) xs h =
+    chunk_at chunks k (drop 60 xs) (omega arith) ∙ ap (take 60) (drop-drop (60 * k) 60 xs ∙ ap (λ (n : ℕ). drop n xs) (omega arith))
+
+-- a slot is one of the chunks of 60 bytes behind the page's head
+pub slot_part : (page : List ℕ) (place : ℕ) → length page ≡ 256 → place < 4
+    → get_or (first_chunks 60 (length (take 240 (drop 16 page)) / 60) (take 240 (drop 16 page))) place [] ≡ slot_in page place
+slot_part page place whole h =
+    let d = length-drop 16 page in
+    let all = take_all 240 (drop 16 page) (omega arith) in
+    let four : length (take 240 (drop 16 page)) / 60 ≡ 4 = let t = length-take 240 (drop 16 page) in omega arith in
+    rw four (chunk_at 4 place (take 240 (drop 16 page)) h ∙ ap (λ (l : List ℕ). take 60 (drop (60 * place) l)) all)
 
 pub body_part : (page slot : List ℕ) (place : ℕ) → length page ≡ 256 → place < 4
     → drop 16 (put_mid (16 + 60 * place) ((16 + 60 * place + 60) - (16 + 60 * place)) page slot)

@@ -1,40 +1,49 @@
 // One log page: its count and its slots.
-ghost use Rattle.std.specs.Prelude.{◌≡◌, ◌<◌, ◌++◌, drop, replicate};
+ghost use Rattle.std.specs.Prelude.{◌≡◌, ◌/◌, ◌%◌, ◌<◌, ◌++◌, drop, replicate};
 ghost use Rattle.format.specs.Bytes.{spelled};
 ghost use Rattle.paged_log.specs.PagedLogs.{count_of, slot_in, page_with};
 
-pub(crate) fn count(page: &[u8; 256]) -> u32
-    ensures { result ≡ count_of page.now }
-{
-    format::number_at(page, 0).min(4)
+#[derive(Clone, Copy)]
+pub(crate) struct LogPage {
+    pub(crate) bytes: [u8; 256],
 }
 
-pub(crate) fn slot(page: &[u8; 256], place: usize) -> [u8; 60]
-    requires { place < 4 }
-    ensures { result ≡ slot_in page.now place }
-{
-    let at = 16 + 60 * place;
-    let mut slot = [0; 60];
-    slot.copy_from_slice(&page[at..at + 60]);
-    slot
+impl LogPage {
+    pub(crate) fn count(&self) -> u32
+        ensures { result ≡ count_of self.now.bytes }
+    {
+        format::number_at(&self.bytes, 0).min(4)
+    }
+
+    pub(crate) fn slot(&self, place: usize) -> [u8; 60]
+        requires { place < 4 }
+        ensures { result ≡ slot_in self.now.bytes place }
+    {
+        self.bytes[16..].as_chunks::<60>().0[place]
+    }
+
+    // The page gets this slot, and the count that makes it the last.
+    pub(crate) fn put(&mut self, place: usize, slot: &[u8; 60])
+        requires { place < 4 }
+        ensures { self.new.bytes ≡ page_with self.old.bytes place slot.now }
+    {
+        // By place and not by `as_chunks_mut`, whose contract does not say what the page ends as.
+        let at = 16 + 60 * place;
+        self.bytes[at..at + 60].copy_from_slice(slot);
+        self.set_count(place as u32 + 1);
+    }
+
+    fn set_count(&mut self, count: u32)
+        ensures { self.new.bytes ≡ spelled count ++ (replicate 12 0 ++ drop 16 self.old.bytes) }
+    {
+        self.bytes[0..4].copy_from_slice(&count.to_le_bytes());
+        self.bytes[4..16].copy_from_slice(&[0; 12]);
+    }
 }
 
-// The page with this slot and the count that makes it the last.
-pub(crate) fn with_slot(page: &[u8; 256], place: usize, slot: &[u8; 60]) -> [u8; 256]
-    requires { place < 4 }
-    ensures { result ≡ page_with page.now place slot.now }
+// The page of slot n, counted from 0, and the slot's place there.
+pub(crate) fn place(n: u32) -> (u32, usize)
+    ensures { result ≡ (n / 4, n % 4) }
 {
-    let at = 16 + 60 * place;
-    let mut new = *page;
-    new[at..at + 60].copy_from_slice(slot);
-    with_count(&new, place as u32 + 1)
-}
-
-fn with_count(page: &[u8; 256], count: u32) -> [u8; 256]
-    ensures { result ≡ spelled count ++ (replicate 12 0 ++ drop 16 page.now) }
-{
-    let mut new = *page;
-    new[0..4].copy_from_slice(&count.to_le_bytes());
-    new[4..16].copy_from_slice(&[0; 12]);
-    new
+    (n / 4, (n % 4) as usize)
 }

@@ -3,7 +3,7 @@
 ghost use Rattle.std.specs.Prelude.{◌≡◌, ◌<◌, true};
 ghost use Rattle.paged_log.specs.PagedLogs.{log_length, room, stands, room_made, Made, SlotPut};
 
-use crate::page;
+use crate::page::{self, LogPage};
 use device::{PageFault, PageStore};
 
 // How many slots the pages say.
@@ -13,7 +13,8 @@ pub(crate) fn end<P: PageStore>(pages: &P) -> u32
 {
     let size = pages.size();
     for at in 0..size {
-        let count = page::count(&pages.read(at).unwrap());
+        let bytes = pages.read(at).unwrap();
+        let count = LogPage { bytes }.count();
         if count < 4 {
             return 4 * at + count;
         }
@@ -26,12 +27,13 @@ pub(crate) fn stands<P: PageStore>(pages: &P, n: u32, slot: &[u8; 60]) -> bool
     requires { ((P.PageStore.model pages.now).powered ≡ true) × (n < room (P.PageStore.model pages.now)) }
     ensures { result ≡ stands (P.PageStore.model pages.now).pages n slot.now }
 {
-    let bytes = pages.read(n / 4).unwrap();
-    let place = (n % 4) as usize;
-    if place >= page::count(&bytes) as usize {
+    let (at, place) = page::place(n);
+    let bytes = pages.read(at).unwrap();
+    let page = LogPage { bytes };
+    if place >= page.count() as usize {
         return false;
     }
-    page::slot(&bytes, place) == *slot
+    page.slot(place) == *slot
 }
 
 // Makes the page after that of slot n blank, if slot n is the fourth of its page and there is a next page that is not blank.
@@ -39,10 +41,11 @@ fn make_room<P: PageStore>(pages: &mut P, n: u32) -> Result<(), PageFault>
     requires { ((P.PageStore.model pages.old).powered ≡ true) × (n < room (P.PageStore.model pages.old)) }
     ensures { Made (P.PageStore.model pages.old).pages (room_made (P.PageStore.model pages.old).pages n) result (P.PageStore.model pages.new) }
 {
-    if n % 4 < 3 {
+    let (at, place) = page::place(n);
+    if place < 3 {
         return Ok(());
     }
-    let next = n / 4 + 1;
+    let next = at + 1;
     if next >= pages.size() {
         return Ok(());
     }
@@ -59,6 +62,9 @@ pub(crate) fn put<P: PageStore>(pages: &mut P, n: u32, slot: &[u8; 60]) -> Resul
     ensures { SlotPut (P.PageStore.model pages.old).pages n slot.now result (P.PageStore.model pages.new) }
 {
     make_room(pages, n)?;
-    let bytes = pages.read(n / 4)?;
-    pages.write(n / 4, &page::with_slot(&bytes, (n % 4) as usize, slot))
+    let (at, place) = page::place(n);
+    let bytes = pages.read(at)?;
+    let mut page = LogPage { bytes };
+    page.put(place, slot);
+    pages.write(at, &page.bytes)
 }

@@ -4,7 +4,8 @@ ghost use Rattle.device.specs.LogStores.{SlotAppended};
 ghost use Rattle.paged_log.specs.PagedLogs.{paged, appended};
 ghost use Rattle.paged_log.specs.PagedLogsSound.{paged_sound};
 
-use crate::{PagedLog, page, put};
+use crate::page::{self, LogPage};
+use crate::{PagedLog, put};
 use device::{LogFault, LogStore, PageStore};
 
 impl<P: PageStore> LogStore for PagedLog<P> {
@@ -31,11 +32,9 @@ impl<P: PageStore> LogStore for PagedLog<P> {
         if n >= self.len {
             return Err(LogFault::Outside);
         }
-        let bytes = self
-            .pages
-            .read(n / 4)
-            .map_err(|_| LogFault::PowerLost(slot))?;
-        Ok(page::slot(&bytes, (n % 4) as usize))
+        let (at, place) = page::place(n);
+        let bytes = self.pages.read(at).map_err(|_| LogFault::PowerLost(slot))?;
+        Ok(LogPage { bytes }.slot(place))
     }
 
     // Every fault of a page is reported as one of the slot that was to come.

@@ -1,7 +1,8 @@
-use Rattle.std.proofs.Common.{Result, subst}
+use Rattle.std.proofs.Common.{ℕ, [], get_or, Result, ap, ◌∙◌, subst}
 use Rattle.std.proofs.lemmas.Result.{err_from_is_err_and}
 use Rattle.device.specs.declared.page_store.PageFault.{PageFault}
-use Rattle.paged_log.specs.PagedLogs.{SlotPut}
+use Rattle.device.specs.PageStores.{PageWritten}
+use Rattle.paged_log.specs.PagedLogs.{SlotPut, page_with}
 use Rattle.paged_log.proofs.PagedLogWrites.{wrote_slot, room_lost, room_done}
 use Rattle.paged_log.proofs.PagedLogModel.{read_page}
 use Rattle.paged_log.proofs.put.put.Goals as goal
@@ -19,8 +20,11 @@ pub returns : goal.returns
 returns g c =
     let pages = (g.P.PageStore.model c.args.pages.now).pages in
     let m = g.P.PageStore.model c.make_room.new.pages in
-    wrote_slot pages c.args.n c.args.slot.now c.in_ok-bytes.bytes c.with_slot.result m c.write.result
-    (g.P.PageStore.model c.write.new.self) c.requires.1
+    let m' = g.P.PageStore.model c.write.new.self in
+    let bytes = c.in_ok-bytes.bytes in
+    let page = c.put.new.self.bytes in
+    wrote_slot pages c.args.n c.args.slot.now bytes page m c.write.result m' c.requires.1
     (room_done pages c.args.n c.make_room.result m c.make_room.ensures c.in_ok-make_room.was)
-    (read_page m _ c.read.result c.in_ok-bytes.bytes c.read.ensures c.in_ok-bytes.was)
-    c.with_slot.ensures c.write.ensures
+    (read_page m _ c.read.result bytes c.read.ensures c.in_ok-bytes.was ∙ ap (λ (p : ℕ × ℕ). get_or m.pages p.0 []) c.place-at.ensures)
+    (c.put.ensures ∙ ap (λ (p : ℕ × ℕ). page_with bytes p.1 c.args.slot.now) c.place-at.ensures)
+    (subst (λ (p : ℕ × ℕ). PageWritten m p.0 page c.write.result m') c.place-at.ensures c.write.ensures)

@@ -1,5 +1,6 @@
-use Rattle.std.proofs.Common.{◌≡◌, suc, ◌/◌, true, Ok, refl, rules, arith}
+use Rattle.std.proofs.Common.{◌≡◌, ℕ, suc, true, [], get_or, Ok, refl, ap, ◌∙◌, rules, arith}
 use Rattle.device.specs.LogStores.{SlotRead}
+use Rattle.paged_log.specs.PagedLogs.{slot_in}
 use Rattle.paged_log.proofs.PagedLogModel.{slots_size, read_slot, read_page}
 use Rattle.paged_log.proofs.store.PagedLogLogStore.read.Goals as goal
 
@@ -17,6 +18,8 @@ returns g c =
     let m = g.P.PageStore.model self.pages in
     let on : (g.P.PageStore.model self.pages).powered ≡ true = search rules in
     let next : c.args.slot ≡ suc c.in_ok-n.n = grind arith in
-    let was : c.read.result ≡ Ok c.in_ok-bytes.bytes = search rules in
-    rw next (read_slot m self.len self.last on c.in_ok-n.n c.in_ok-bytes.bytes c.slot.result (omega arith)
-    (read_page m (c.in_ok-n.n / 4) c.read.result c.in_ok-bytes.bytes c.read.ensures was) c.slot.ensures)
+    let bytes = c.in_ok-bytes.bytes in
+    let was : c.read.result ≡ Ok bytes = search rules in
+    rw next (read_slot m self.len self.last on c.in_ok-n.n bytes c.slot.result (omega arith)
+    (read_page m _ c.read.result bytes c.read.ensures was ∙ ap (λ (p : ℕ × ℕ). get_or m.pages p.0 []) c.place-at.ensures)
+    (c.slot.ensures ∙ ap (λ (p : ℕ × ℕ). slot_in bytes p.1) c.place-at.ensures))
