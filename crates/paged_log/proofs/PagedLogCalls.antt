@@ -12,7 +12,7 @@ use Rattle.device.specs.declared.log_store.LogFault.TheVariants as fault
 use Rattle.device.specs.PageStores as store
 use Rattle.device.specs.PageStores.{PageModel, SoundPages}
 use Rattle.device.specs.LogStores.{LogModel, SlotAppended, powered_on}
-use Rattle.paged_log.specs.PagedLogs.{count_of, slot_at, first_slots, log_length, log_of, stands, held, sure, room, paged, Says, room_made, put_slot, at_power, appended, Made, SlotPut}
+use Rattle.paged_log.specs.PagedLogs.{count_of, slot_at, first_slots, log_length, log_of, stands, held, sure, room, paged, Says, room_made, put_slot, at_power, Made, SlotPut}
 use Rattle.paged_log.specs.PagedLogsSound.{length_first}
 use Rattle.paged_log.proofs.PagedLogEnds.{first_same, take_first, count_there}
 use Rattle.paged_log.proofs.PagedLogSteps.{kept_by_room, room_size, slots_by_room, end_by_room, next_blank, put_size, put_there, put_kept, put_count, put_end}
@@ -113,17 +113,17 @@ module _ (pages : List (List ℕ)) (n : ℕ) (inside : n < 4 * length pages) (wh
       new_end ∙ sym (ap (λ (t : Bool). cond t (suc n) n) there)
 
   -- what an append makes of the log, by what putting its slot answers
-  record AppendedTo (r : Result (Unit {0}) PageFault) (after : PageModel) : Type 0 where
-    outcome : SlotAppended (whole_log pages n) slot (slot_fault r (n + 1)) (paged after (n + 1) slot)
-    written : slot_fault r (n + 1) ≡ Ok tt → after ≡ at_power true new
-    in_room : n + 1 ≤ room after
-    says : Says after (paged after (n + 1) slot)
+  pub record AppendedTo (before : LogModel) (r : Result (Unit {0}) PageFault) (after : PageModel) : Type 0 where
+    pub outcome : SlotAppended before slot (slot_fault r (n + 1)) (paged after (n + 1) slot)
+    pub written : slot_fault r (n + 1) ≡ Ok tt → after ≡ at_power true new
+    pub in_room : n + 1 ≤ room after
+    pub says : Says after (paged after (n + 1) slot)
 
   lost_with : (left : List (List ℕ)) (page : ℕ) → length left ≡ length pages → first_slots left n ≡ first_slots pages n
-      → log_length left ≡ sure false left (suc n) slot → AppendedTo (Err (PowerLost page)) (at_power false left)
+      → log_length left ≡ sure false left (suc n) slot → AppendedTo (whole_log pages n) (Err (PowerLost page)) (at_power false left)
   lost_with left page size same end = record { outcome = append_lost left size same; written = λ e. absurd cc; in_room = omega arith; says = says_lost left size same end }
 
-  appended_to : (r : Result (Unit {0}) PageFault) (after : PageModel) → SlotPut pages n slot r after → AppendedTo r after
+  appended_to : (r : Result (Unit {0}) PageFault) (after : PageModel) → SlotPut pages n slot r after → AppendedTo (whole_log pages n) r after
   appended_to r after (SlotPut.room_lost page e s) = rw (e, s) (lost_with pages page refl refl (stands_not pages inside ends))
   appended_to r after (SlotPut.put (Made.done e s)) = rw (e, s) (record {
     outcome = let size = length_first pages n in SlotAppended.done refl (omega arith) (suc n) (omega arith) (omega arith) refl put_done;
@@ -141,26 +141,19 @@ module _ (m : PageModel) (on : m.powered ≡ true) (sound : SoundPages m) (len :
   before : paged m len last ≡ whole_log m.pages len
   before = with_power m len last on
 
-  ends_there : log_length m.pages ≡ len
+  pub ends_there : log_length m.pages ≡ len
   ends_there =
       let same = subst (λ (l : LogModel). Says m l) before says ∙ take_first m.pages len len (omega arith) in
       sym (length_first m.pages (log_length m.pages)) ∙ ap length same ∙ length_first m.pages len
 
-  module _ (r : Result (Unit {0}) PageFault) (after : PageModel) (put : SlotPut m.pages len slot r after) where
-    to : AppendedTo m.pages len inside (λ p h. (sound.each p h).size) slot fits ends_there r after
-    to = appended_to m.pages len inside (λ p h. (sound.each p h).size) slot fits ends_there r after put
+  pub whole_pages : (p : ℕ) → p < length m.pages → length (get_or m.pages p []) ≡ 256
+  whole_pages p h = (sound.each p h).size
 
-    pub slot_appended : SlotAppended (paged m len last) slot (slot_fault r (len + 1)) (paged after (len + 1) slot)
-    slot_appended = subst (λ (l : LogModel). SlotAppended l slot (slot_fault r (len + 1)) (paged after (len + 1) slot)) (sym before) to.outcome
-
-    pub slot_written : slot_fault r (len + 1) ≡ Ok tt → after ≡ appended m len slot
-    slot_written = to.written
-
-    pub in_room_after : len + 1 ≤ room after
-    in_room_after = to.in_room
-
-    pub says_after : Says after (paged after (len + 1) slot)
-    says_after = to.says
+  pub append_put : (r : Result (Unit {0}) PageFault) (after : PageModel) → SlotPut m.pages len slot r after
+      → AppendedTo m.pages len inside whole_pages slot fits ends_there (paged m len last) r after
+  append_put r after putting =
+      subst (λ (l : LogModel). AppendedTo m.pages len inside whole_pages slot fits ends_there l r after) (sym before)
+      (appended_to m.pages len inside whole_pages slot fits ends_there r after putting)
 
 -- power comes back
 pub says_on : (m m' : PageModel) (l l' : LogModel) → m' ≡ store.powered_on m → l' ≡ powered_on l → Says m l → Says m' l'
@@ -184,11 +177,18 @@ module _ (m m' : PageModel) (e : m' ≡ store.powered_on m) (len : ℕ) (last : 
         ∙ ap (λ (j : ℕ). powered_on (paged (at_power false m.pages) j last)) one
         ∙ ap (λ (l : List (List ℕ)). record { capacity = room m; slots = l; forced = sure false m.pages (suc k) last; powered = true }) (kept_sure m.pages k last)
 
-    looked : (t : Bool) → t ≡ stands m'.pages k last → powered_on (paged m len last) ≡ whole_log m.pages (cond t (suc k) k)
-    looked t h = cut ∙ ap (λ (b : Bool). whole_log m.pages (cond b (suc k) k)) (sym (h ∙ ap (λ (x : PageModel). stands x.pages k last) e))
+    -- what is left of the log, by whether the slot stands
+    pub record LeftOn (left : ℕ) : Type 0 where
+      pub log : paged m' left last ≡ powered_on (paged m len last)
+      pub in_room : left ≤ room m'
+      pub agrees : Says m' (paged m' left last)
 
-    pub on_stands : true ≡ stands m'.pages k last → paged m' len last ≡ powered_on (paged m len last)
-    on_stands t = on_now len ∙ ap (whole_log m.pages) one ∙ sym (looked true t)
-
-    pub on_lost : false ≡ stands m'.pages k last → paged m' k last ≡ powered_on (paged m len last)
-    on_lost t = on_now k ∙ sym (looked false t)
+    pub left_on : len ≤ room m → Says m (paged m len last) → (t : Bool) → t ≡ stands m'.pages k last → (left : ℕ) → left ≡ cond t (suc k) k → LeftOn left
+    left_on in_room says t looked left is =
+        let stood : stands m.pages k last ≡ t = sym (looked ∙ ap (λ (x : PageModel). stands x.pages k last) e) in
+        let on = on_now left ∙ ap (whole_log m.pages) is ∙ sym (cut ∙ ap (λ (b : Bool). whole_log m.pages (cond b (suc k) k)) stood) in
+        record {
+          log = on;
+          in_room = let same = ap room e in let most = cond_both t (suc k) k (λ j. j ≤ suc k) (λ _. omega arith) (λ _. omega arith) in omega arith;
+          agrees = says_on m m' (paged m len last) (paged m' left last) e on says;
+        }

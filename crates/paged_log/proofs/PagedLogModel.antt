@@ -1,10 +1,11 @@
 -- The model of a log on pages: what its making gives, and what each call makes of it.
 use Rattle.std.proofs.Common.{◌≡◌, ℕ, suc, ◌/◌, ◌%◌, ◌<◌, ◌≤◌, Bool, true, false, cond, ltb, List, [], ◌∷◌, ◌++◌, length, get_or, take, replicate, Ok, Err, Result, sym, refl, ap, ◌∙◌, subst, ⊎_elim, arith}
 use Rattle.std.specs.Str.{bytes_eq}
-use Rattle.std.proofs.lemmas.List.{take_all, take_at, length_push, length-replicate, get_or-replicate, get_or_past}
+use Rattle.std.proofs.lemmas.List.{take_all, take_at, length_push, length-replicate}
 use Rattle.format.specs.Bytes.{Bytes}
+use Rattle.format.proofs.Rows.{small_zeros}
 use Rattle.std.proofs.lemmas.Slice.Eq.{bytes_eq-Decides}
-use Rattle.std.proofs.lemmas.Bool.{cases_Bool, cases_lt, and_parts}
+use Rattle.std.proofs.lemmas.Bool.{cases_Bool, and_parts}
 use Rattle.device.specs.declared.page_store.PageFault.{PageFault}
 use Rattle.device.specs.declared.log_store.LogFault.TheVariants.{PowerLost}
 use Rattle.device.specs.PageStores as store
@@ -22,11 +23,8 @@ read_page m at r page (PageRead.done p l e) o = cc
 pub at_this : (m : PageModel) (b : Bool) → m.powered ≡ b → m ≡ at_power b m.pages
 at_this m b e = ap (λ (t : Bool). record { pages = m.pages; powered = t }) e
 
-zero_at : (n k : ℕ) → ◌≡◌ {A = ℕ} (get_or (replicate n 0) k 0) 0
-zero_at n k = ⊎_elim (λ l. get_or-replicate n k 0 0 l) (λ l. get_or_past (replicate n 0) k 0 (omega (arith, length-replicate {A = ℕ} n 0))) (cases_lt k n)
-
 pub zeros_fit : (n : ℕ) → Bytes n (replicate n 0)
-zeros_fit n = record { size = length-replicate n 0; small = λ k. let e = zero_at n k in omega arith }
+zeros_fit n = record { size = length-replicate n 0; small = small_zeros n }
 
 -- the making
 module _ (m m' : PageModel) (on : m' ≡ store.powered_on m) (len : ℕ) (ends : len ≡ log_length m'.pages) (last : List ℕ) where

@@ -6,9 +6,6 @@ use Rattle.paged_log.specs.PagedLogs.{count_of, slot_in, slot_at, log_length, bl
 use Rattle.paged_log.proofs.PagedLogEnds.{length_at, length_full, full_before, count_there}
 
 module _ (page : List ℕ) (whole : length page ≡ 256) (place : ℕ) (inside : place < 4) (slot : List ℕ) (slot_whole : length slot ≡ 60) where
-  body : List ℕ
-  body = drop 16 page
-
   pub count_with : count_of (page_with page place slot) ≡ suc place
   count_with = omega arith
 

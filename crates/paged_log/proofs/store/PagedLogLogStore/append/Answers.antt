@@ -1,7 +1,7 @@
 use Rattle.std.proofs.Common.{◌≡◌, ◌+◌, true, false, Err, rules, arith}
 use Rattle.device.specs.declared.log_store.LogFault.TheVariants.{PowerLost}
 use Rattle.format.specs.Bytes.{Bytes}
-use Rattle.paged_log.proofs.PagedLogCalls.{slot_fault, lost_already, full_already, slot_appended, slot_written, in_room_after, says_after}
+use Rattle.paged_log.proofs.PagedLogCalls.{slot_fault, lost_already, full_already, append_put}
 use Rattle.paged_log.proofs.store.PagedLogLogStore.append.Goals as goal
 
 pub returns-in_err-check_power-clause-appended : goal.returns-in_err-check_power-clause-appended
@@ -23,13 +23,9 @@ invariant_of-self g c =
     let m = g.P.PageStore.model self.pages in
     let on : m.powered ≡ true = search rules in
     let whole : Bytes 60 c.args.bytes.now = record { size = c.told-bytes; small = c.fits-bytes } in
-    record {
-      in_room = in_room_after m on (g.P.PageStore.sound self.pages) self.len self.last c.args.bytes.now whole
-          (omega arith) self.agrees c.put.result (g.P.PageStore.model c.put.new.pages) c.put.ensures;
-      whole = whole;
-      agrees = says_after m on (g.P.PageStore.sound self.pages) self.len self.last c.args.bytes.now whole
-          (omega arith) self.agrees c.put.result (g.P.PageStore.model c.put.new.pages) c.put.ensures;
-    }
+    let put = append_put m on (g.P.PageStore.sound self.pages) self.len self.last c.args.bytes.now whole
+    (omega arith) self.agrees c.put.result (g.P.PageStore.model c.put.new.pages) c.put.ensures in
+    record { in_room = put.in_room; whole = whole; agrees = put.says }
 
 pub returns : goal.returns
 returns g c =
@@ -38,9 +34,6 @@ returns g c =
     let on : m.powered ≡ true = search rules in
     let lost : c.map_err.result ≡ slot_fault c.put.result (self.len + 1) = search rules in
     let whole : Bytes 60 c.args.bytes.now = record { size = c.told-bytes; small = c.fits-bytes } in
-    rw lost (record {
-      appended = slot_appended m on (g.P.PageStore.sound self.pages) self.len self.last c.args.bytes.now whole
-          (omega arith) self.agrees c.put.result (g.P.PageStore.model c.put.new.pages) c.put.ensures;
-      written = slot_written m on (g.P.PageStore.sound self.pages) self.len self.last c.args.bytes.now whole
-          (omega arith) self.agrees c.put.result (g.P.PageStore.model c.put.new.pages) c.put.ensures;
-    })
+    let put = append_put m on (g.P.PageStore.sound self.pages) self.len self.last c.args.bytes.now whole
+    (omega arith) self.agrees c.put.result (g.P.PageStore.model c.put.new.pages) c.put.ensures in
+    rw lost (record { appended = put.outcome; written = put.written })
