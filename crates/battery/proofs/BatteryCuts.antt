@@ -1,5 +1,6 @@
 -- The count of battery memory's writes or forces comes to the number that was set, once.
-use Rattle.std.proofs.Common.{◌≡◌, ℕ, zero, suc, min, ◌≤◌, false, cond, Option, Some, None, ◌∙◌, ap, eqb, refl, arith}
+use Rattle.std.proofs.Common.{◌≡◌, ℕ, zero, suc, min, ◌≤◌, false, cond, Option, Some, None, ◌∙◌, ap, eqb, sym, refl, arith}
+use Rattle.std.proofs.Math.Dec.{eqb-suc-suc}
 use Rattle.std.proofs.lemmas.Bool.Decides.{nat_tests}
 use Rattle.std.proofs.lemmas.Bool.{cond_both}
 use Rattle.std.specs.Prelude.{◌==◌}
@@ -16,13 +17,13 @@ never : (n : ℕ) → cuts_now (cut_after n None) ≡ false
 never zero = refl
 never (suc n) = ap cuts_now (next_first n None) ∙ never n
 
-one_on : (a b : ℕ) → eqb a b ≡ eqb (suc a) (suc b)
-one_on a b = grind (arith, nat_tests)
-
-pub lost_at : (number stands : ℕ) → LostIn (cut_at number stands) (eqb number)
+lost_at : (number stands : ℕ) → LostIn (cut_at number stands) (eqb number)
 lost_at zero stands n = let e = never n in grind (arith, nat_tests)
-lost_at (suc k) stands zero = one_on k 0
-lost_at (suc k) stands (suc n) = ap cuts_now (next_first n (cut_at (suc k) stands)) ∙ lost_at k stands n ∙ one_on k (suc n)
+lost_at (suc k) stands zero = sym (eqb-suc-suc k 0)
+lost_at (suc k) stands (suc n) = ap cuts_now (next_first n (cut_at (suc k) stands)) ∙ lost_at k stands n ∙ sym (eqb-suc-suc k (suc n))
+
+pub lost_in : (cut : Option PowerCut) (number stands : ℕ) → cut ≡ cut_at number stands → LostIn cut (eqb number)
+lost_in cut number stands is = rw is (lost_at number stands)
 
 pub lost_once : (c : Option PowerCut) → LostOnce c
 lost_once None n = never n

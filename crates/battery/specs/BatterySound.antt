@@ -1,6 +1,7 @@
 -- Battery memory is a sound page store and a sound log store, whatever its cells hold. Assumes nothing.
-use Rattle.std.specs.Prelude.{◌≡◌, ℕ, zero, suc, ◌<◌, ◌≤◌, List, [], ◌∷◌, map, length, take, slice_index_or, refl}
-use Rattle.std.proofs.Common.{ap, arith, length-take}
+use Rattle.std.specs.Prelude.{◌≡◌, ℕ, zero, suc, ◌<◌, ◌≤◌, List, [], ◌∷◌, map, length, take, slice_index_or}
+use Rattle.std.proofs.Common.{arith, length-take}
+use Rattle.std.proofs.lemmas.List.{length-map}
 use Rattle.format.specs.Bytes.{Bytes}
 use Rattle.device.specs.Memory.{as_bytes, as_bytes_size, as_bytes_small}
 use Rattle.device.specs.PageStores.{SoundPages}
@@ -13,12 +14,8 @@ each_row n [] i h = absurd (omega arith)
 each_row n (x ∷ xs) zero h = record { size = as_bytes_size n x; small = as_bytes_small n x }
 each_row n (x ∷ xs) (suc i) h = each_row n xs i (omega arith)
 
-pub as_many_rows : (n : ℕ) (xs : List (List ℕ)) → length (map (as_bytes n) xs) ≡ length xs
-as_many_rows n [] = refl
-as_many_rows n (x ∷ xs) = ap suc (as_many_rows n xs)
-
 pub length_rows : {most : ℕ} (n : ℕ) (h : Held (List ℕ) most) → h.used ≤ room h → length (rows n h) ≡ h.used
-length_rows n h in_room = let m = as_many_rows n (take h.used h.cells) in let t = length-take h.used h.cells in omega arith
+length_rows n h in_room = let m = length-map (take h.used h.cells) (as_bytes n) in let t = length-take h.used h.cells in omega arith
 
 pub sound_pages : (h : Held (List ℕ) most_pages) → h.used ≤ room h → SoundPages (pages_model h)
 sound_pages h in_room = record { few = let e = length_rows 256 h in_room in omega arith; each = each_row 256 (take h.used h.cells) }

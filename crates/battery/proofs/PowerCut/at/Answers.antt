@@ -1,15 +1,9 @@
-use Rattle.std.proofs.Common.{◌≡◌, eqb, Option, Some, sym, subst, rules}
-use Rattle.battery.specs.declared.PowerCut.{PowerCut}
-use Rattle.battery.specs.Batteries.{cut_at, LostIn}
-use Rattle.battery.proofs.BatteryCuts.{lost_at}
+use Rattle.std.proofs.Common.{rules}
+use Rattle.battery.proofs.BatteryCuts.{lost_in}
 use Rattle.battery.proofs.PowerCut.at.Goals as goal
 
 pub returns-in_err-after-clause-once : goal.returns-in_err-after-clause-once
-returns-in_err-after-clause-once c =
-    let value : c.from_residual.result ≡ cut_at c.args.number c.args.stands = search rules in
-    subst (λ (cut : Option PowerCut). LostIn cut (eqb c.args.number)) (sym value) (lost_at c.args.number c.args.stands)
+returns-in_err-after-clause-once c = lost_in c.from_residual.result c.args.number c.args.stands (search rules)
 
 pub returns-clause-once : goal.returns-clause-once
-returns-clause-once c =
-    let value : Some (record { after = c.in_ok-after.after; stands = c.args.stands }) ≡ cut_at c.args.number c.args.stands = search rules in
-    subst (λ (cut : Option PowerCut). LostIn cut (eqb c.args.number)) (sym value) (lost_at c.args.number c.args.stands)
+returns-clause-once c = lost_in _ c.args.number c.args.stands (search rules)
