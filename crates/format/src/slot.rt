@@ -74,11 +74,7 @@ impl<C> Slot<C> {
                 Action::Put => SlotKind::Change,
                 Action::TakeBack => SlotKind::Compensation,
             },
-            Slot::Job { event, .. } => match event {
-                JobEvent::Open => SlotKind::Open,
-                JobEvent::Commit => SlotKind::Commit,
-                JobEvent::End => SlotKind::End,
-            },
+            Slot::Job { event, .. } => SlotKind::from(*event),
             Slot::Checkpoint(part) => match part {
                 CheckpointPart::Begin => SlotKind::CheckpointBegin,
                 CheckpointPart::DirtyPage { .. } => SlotKind::CheckpointPage,

@@ -54,11 +54,7 @@ impl fmt::Display for SlotKind {
 
 impl fmt::Display for JobEvent {
     fn fmt<W: fmt::Write>(&self, f: &mut fmt::Formatter<W>) -> fmt::Result {
-        match self {
-            JobEvent::Open => f.write_str("open"),
-            JobEvent::Commit => f.write_str("commit"),
-            JobEvent::End => f.write_str("end"),
-        }
+        write!(f, "{}", SlotKind::from(*self))
     }
 }
 

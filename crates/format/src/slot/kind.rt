@@ -2,9 +2,9 @@
 ghost use Rattle.std.specs.Prelude.{◌≡◌};
 ghost use Rattle.std.specs.Option.{ok_or};
 ghost use Rattle.format.specs.declared.slot.Misfit.TheVariants.{UnknownKind};
-ghost use Rattle.format.specs.Slots.{kind_number, kind_numbered};
+ghost use Rattle.format.specs.Slots.{kind_number, kind_numbered, kind_of_event};
 
-use super::Misfit;
+use super::{JobEvent, Misfit};
 
 #[derive(Clone, Copy, Debug, PartialEq, Eq, PartialOrd, Ord)]
 pub enum SlotKind {
@@ -45,5 +45,17 @@ impl From<SlotKind> for u8 {
 
     fn from(kind: SlotKind) -> u8 {
         kind as u8
+    }
+}
+
+impl From<JobEvent> for SlotKind {
+    ghost from_gives = { λ event kind. kind ≡ kind_of_event event };
+
+    fn from(event: JobEvent) -> SlotKind {
+        match event {
+            JobEvent::Open => SlotKind::Open,
+            JobEvent::Commit => SlotKind::Commit,
+            JobEvent::End => SlotKind::End,
+        }
     }
 }
