@@ -5,6 +5,7 @@ ghost use Rattle.device.specs.LogStores.{LogModel, SoundLog, LengthRead, SlotRea
 // The largest capacity: the number after the last slot fits four bytes.
 pub const MOST_SLOTS: u32 = 4_294_967_294;
 
+// Not one type with the faults of pages: nobody has to deal with a fault that cannot come.
 // Without power every call answers `PowerLost`, but for the capacity, whether there is power, and to power on.
 #[derive(Clone, Copy, Debug, PartialEq, Eq)]
 pub enum LogFault {

@@ -50,7 +50,7 @@ impl<P: PageStore> PagedLog<P> {
         }
     }
 
-    // Gives the page store back.
+    // Gives the page store back. No `From`, which would stand for every store.
     pub fn into_pages(self) -> P
         ensures { result ≡ self.pages }
     {

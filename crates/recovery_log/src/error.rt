@@ -14,6 +14,7 @@ pub enum NoteError {
 
 impl Error for NoteError {}
 
+// By hand, since contracts name the variant that `?` makes.
 impl From<AllocError> for NoteError {
     ghost from_gives = { λ _ r. r ≡ OutOfMemory };
 

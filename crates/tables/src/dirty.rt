@@ -1,4 +1,5 @@
-// The dirty pages, at most 64, in the order in which they were entered. Their places are reserved when the table is made.
+// The dirty pages, at most 64, in the order in which they were entered. Their places are reserved when the table is made;
+// a map would want memory with each entry.
 use rules::DirtyPage;
 use std::marker::Model;
 

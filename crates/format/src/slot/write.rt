@@ -17,6 +17,7 @@ impl<C: Change> Slot<C> {
     }
 }
 
+// By functions, here and where slots are read, and not by impls of std: they want a kind of change, and fields may be those of no slot.
 fn fields<C: Change>(slot: &Slot<C>) -> Fields
     ensures { result ≡ slot_fields C.Change.meaning slot.now }
 {
