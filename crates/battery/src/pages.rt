@@ -1,7 +1,7 @@
 // Battery memory as a page store.
 ghost use Rattle.std.specs.Prelude.{◌≡◌, min, true, map, length, take};
 ghost use Rattle.device.specs.Memory.{as_bytes};
-ghost use Rattle.device.specs.PageStores.{PageRead, PageWritten, powered_on};
+ghost use Rattle.device.specs.PageStores.{PageWritten, powered_on};
 ghost use Rattle.battery.specs.Batteries.{held, made, LostOnce, on_again};
 ghost use Rattle.battery.specs.BatteryStores.{pages_model, most_pages, BatteryWrote};
 ghost use Rattle.battery.specs.BatterySound.{sound_pages};

@@ -1,6 +1,6 @@
 // Battery memory as a log store.
 ghost use Rattle.std.specs.Prelude.{◌≡◌, min, true, [], length};
-ghost use Rattle.device.specs.LogStores.{LengthRead, SlotRead, SlotAppended, LogForced, powered_on};
+ghost use Rattle.device.specs.LogStores.{SlotAppended, LogForced, powered_on};
 ghost use Rattle.battery.specs.Batteries.{held, made, LostOnce, cut_back};
 ghost use Rattle.battery.specs.BatteryStores.{log_model, most_slots, BatteryAppended, BatteryForced};
 ghost use Rattle.battery.specs.BatterySound.{sound_log};

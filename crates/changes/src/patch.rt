@@ -5,8 +5,7 @@ ghost use Rattle.changes.specs.PatchForm.{patch_ok};
 mod change;
 mod parts;
 
-// An array with its length beside: a patch is copied and lies in no heap. A Vec is neither, and the kit's ArrayVec lies in no
-// heap, but is not Copy.
+// An array with its length beside, since a patch is copied and lies in no heap: a Vec lies in one, and the kit's ArrayVec is not Copy.
 #[derive(Clone, Copy)]
 pub struct Patch {
     offset: u8,

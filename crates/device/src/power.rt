@@ -1,4 +1,4 @@
-// The question that every operation of a store asks first.
+// The question that a store asks first in each operation that needs power.
 ghost use Rattle.std.specs.Prelude.{◌≡◌, if◌then◌else◌, Ok, Err};
 
 // Without power the operation answers this fault.

@@ -20,6 +20,7 @@ impl Error for LogFault {}
 impl fmt::Display for LogFault {
     fn fmt<W: fmt::Write>(&self, f: &mut fmt::Formatter<W>) -> fmt::Result {
         match self {
+            LogFault::PowerLost(0) => f.write_str("the log has no power"),
             LogFault::PowerLost(slot) => write!(f, "the log has no power at slot {slot}"),
             LogFault::Outside => f.write_str("the log has no such slot"),
             LogFault::Full => f.write_str("the log is full"),

@@ -23,7 +23,7 @@ impl Page {
         }
     }
 
-    // `from_bytes` and `to_bytes` are named like a change's; a `from` would not say at its call that it reads bytes.
+    // Named as in `Change`; a `from` would not say at its call that it reads bytes.
     pub fn from_bytes(bytes: &[u8; 256]) -> Page
         ensures value { result ≡ page_of bytes.now }
         ensures bytes { page_bytes result ≡ bytes.now }

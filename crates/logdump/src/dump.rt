@@ -17,7 +17,7 @@ pub(crate) trait Printable: Change + fmt::Display + Copy {}
 
 impl<C: Change + fmt::Display + Copy> Printable for C {}
 
-// Prints slots, counts them in, and knows how many pages the store of their log has.
+// Prints slots and counts them in, then prints the summary; knows how many pages the store of their log has.
 #[derive(Drop)]
 struct Printer<W> {
     out: W,

@@ -25,8 +25,8 @@ pub struct PagedLog<P: PageStore> {
     pages: P,
     // How many slots there are, with the slot of an append in which power was lost.
     len: u32,
-    // The slot of the last append. It is read only where power was lost, which is in an append; so what stands here before the first is
-    // never read.
+    // The slot of the last append. Only `power_on` reads it, after a loss of power, and power is lost only in an append: what stands here
+    // before the first append is never read.
     last: [u8; 60],
     pub ghost in_room: { len ≤ room (P.PageStore.model pages) },
     pub ghost whole: { Bytes 60 last },

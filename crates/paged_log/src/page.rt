@@ -27,7 +27,7 @@ impl LogPage {
         requires { place < 4 }
         ensures { self.new.bytes ≡ page_with self.old.bytes place slot.now }
     {
-        // By place and not by `as_chunks_mut`, whose contract does not say what the page ends as.
+        // By its range of bytes: `as_chunks_mut` says nothing of what the page ends as.
         let at = 16 + 60 * place;
         self.bytes[at..at + 60].copy_from_slice(slot);
         self.set_count(place as u32 + 1);
@@ -42,7 +42,7 @@ impl LogPage {
 }
 
 // The page of slot n, counted from 0, and the slot's place there.
-pub(crate) fn place(n: u32) -> (u32, usize)
+pub(crate) fn page_and_place(n: u32) -> (u32, usize)
     ensures { result ≡ (n / 4, n % 4) }
 {
     (n / 4, (n % 4) as usize)

@@ -27,7 +27,7 @@ pub(crate) fn stands<P: PageStore>(pages: &P, n: u32, slot: &[u8; 60]) -> bool
     requires { ((P.PageStore.model pages.now).powered ≡ true) × (n < room (P.PageStore.model pages.now)) }
     ensures { result ≡ stands (P.PageStore.model pages.now).pages n slot.now }
 {
-    let (at, place) = page::place(n);
+    let (at, place) = page::page_and_place(n);
     let bytes = pages.read(at).unwrap();
     let page = LogPage { bytes };
     if place >= page.count() as usize {
@@ -41,7 +41,7 @@ fn make_room<P: PageStore>(pages: &mut P, n: u32) -> Result<(), PageFault>
     requires { ((P.PageStore.model pages.old).powered ≡ true) × (n < room (P.PageStore.model pages.old)) }
     ensures { Made (P.PageStore.model pages.old).pages (room_made (P.PageStore.model pages.old).pages n) result (P.PageStore.model pages.new) }
 {
-    let (at, place) = page::place(n);
+    let (at, place) = page::page_and_place(n);
     if place < 3 {
         return Ok(());
     }
@@ -62,7 +62,7 @@ pub(crate) fn put<P: PageStore>(pages: &mut P, n: u32, slot: &[u8; 60]) -> Resul
     ensures { SlotPut (P.PageStore.model pages.old).pages n slot.now result (P.PageStore.model pages.new) }
 {
     make_room(pages, n)?;
-    let (at, place) = page::place(n);
+    let (at, place) = page::page_and_place(n);
     let bytes = pages.read(at)?;
     let mut page = LogPage { bytes };
     page.put(place, slot);

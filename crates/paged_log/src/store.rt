@@ -32,7 +32,7 @@ impl<P: PageStore> LogStore for PagedLog<P> {
         if n >= self.len {
             return Err(LogFault::Outside);
         }
-        let (at, place) = page::place(n);
+        let (at, place) = page::page_and_place(n);
         let bytes = self.pages.read(at).map_err(|_| LogFault::PowerLost(slot))?;
         Ok(LogPage { bytes }.slot(place))
     }

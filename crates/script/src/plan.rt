@@ -79,6 +79,7 @@ impl PowerPlan {
     }
 }
 
+// The stores here compare with the choice itself; these are for other devices.
 impl Choice {
     pub fn keeps_old(self) -> bool
         ensures { result ≡ keeps_old self }

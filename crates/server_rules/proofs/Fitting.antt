@@ -1,4 +1,4 @@
--- A slot that may stand next in a legal log fits at its number, so its bytes read back as that slot; and a page as its bytes. Assumes nothing.
+-- A slot that may stand next in a legal log fits at its number, so its bytes read back as that slot; and a page's bytes read back as that page. Assumes nothing.
 use Rattle.std.proofs.Common.{◌≡◌, ℕ, suc, ◌+◌, ◌^◌, ◌<◌, ◌≤◌, Bool, true, false, cond, eqb, List, [], ◌∷◌, length, Some, None, Option, Result, sym, refl, ap, ◌∙◌, arith}
 use Rattle.std.specs.Result.{result_ok}
 use Rattle.std.specs.Str.{bytes_eq}

@@ -7,7 +7,7 @@ use Rattle.span.specs.declared.Half.{Half}
 use Rattle.span.specs.declared.Half.TheVariants.{First, Second}
 use Rattle.span.specs.Spans.{joined}
 
--- with power, a page of the span is in the half where it stands
+-- what a span finds for a page: without power that fault, past the end `Outside`, else the half that has it, for the second with its number there
 pub data Found (a b : PageModel) (at : ℕ) (r : Result Half PageFault) : Type 0 where
   no_power : (joined a b).powered ≡ false → r ≡ Err (PowerLost at) → Found a b at r
   outside : (joined a b).powered ≡ true → length (joined a b).pages ≤ at → r ≡ Err Outside → Found a b at r

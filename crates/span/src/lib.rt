@@ -1,8 +1,7 @@
 // A span: two page stores, one after the other, as one page store.
 #![tactic(auto)]
 
-ghost use Rattle.std.specs.Prelude.{◌≡◌, length};
-ghost use Rattle.device.specs.PageStores.{PageRead, PageWritten, powered_on};
+ghost use Rattle.std.specs.Prelude.{◌≡◌};
 ghost use Rattle.span.specs.Spans.{joined, joined_sound};
 ghost use Rattle.span.specs.Halves.{Found};
 
@@ -14,7 +13,7 @@ pub struct Span<A, B> {
     pub second: B,
 }
 
-// The half that has a page; of the second it is page n.
+// The half that has a page; with the second, the page's number there.
 #[derive(Clone, Copy)]
 enum Half {
     First,

@@ -1,5 +1,5 @@
-// The server's tables: open jobs, and dirty pages. They are two types, as the job table's entries stand in an inner struct
-// that lends them, and each table is asked other things.
+// The server's tables: open jobs, and dirty pages.
+// They are two types: the job table keeps its entries in an inner struct that lends them, and the two are asked different questions.
 #![tactic(auto)]
 
 mod dirty;

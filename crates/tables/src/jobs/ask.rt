@@ -28,7 +28,7 @@ impl JobTable {
         self.find(job).is_some()
     }
 
-    // The next of the job, None where there is no such job. A job that has none has 0, as its slots write it.
+    // The job's next, None where there is no such job. Where the job has no change to take back, its next is 0, as its slots write it.
     pub fn next_of(&self, job: u32) -> Option<u32>
         ensures { result ≡ option_map (λ e. e.next) (find_job job self.now) }
     {
