@@ -11,12 +11,12 @@ returns-then-eq g c =
     let m = g.P.PageStore.model c.args.pages.now in
     let read = read_page m _ c.read.result c.in_ok-bytes.bytes c.read.ensures c.in_ok-bytes.was in
     let same = (slice_eq-Decides Decides-eqb c.in_ok-bytes.bytes blank c.eq.result c.eq.ensures).0 c.if-eq.true in
-    let next = ap (λ (p : ℕ × ℕ). p.0 + 1) c.place-at.ensures ∙ add-one _ in
+    let next = ap (λ (p : ℕ × ℕ). p.0 + 1) c.page_and_place-at.ensures ∙ add-one _ in
     Made.done refl (room_blank m c.args.n c.requires.0 (ap (λ (k : ℕ). get_or m.pages k []) (sym next) ∙ sym read ∙ same))
 
 pub returns : goal.returns
 returns g c =
-    let at = ap (λ (p : ℕ × ℕ). p.0) c.place-at.ensures in
-    let place = ap (λ (p : ℕ × ℕ). p.1) c.place-at.ensures in
+    let at = ap (λ (p : ℕ × ℕ). p.0) c.page_and_place-at.ensures in
+    let place = ap (λ (p : ℕ × ℕ). p.1) c.page_and_place-at.ensures in
     wrote_room (g.P.PageStore.model c.args.pages.now) c.args.n _ c.write.result
     (g.P.PageStore.model c.write.new.self) c.requires.0 (omega arith) (omega arith) (omega arith) c.write.ensures

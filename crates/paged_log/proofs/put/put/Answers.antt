@@ -25,6 +25,6 @@ returns g c =
     let page = c.put.new.self.bytes in
     wrote_slot pages c.args.n c.args.slot.now bytes page m c.write.result m' c.requires.1
     (room_done pages c.args.n c.make_room.result m c.make_room.ensures c.in_ok-make_room.was)
-    (read_page m _ c.read.result bytes c.read.ensures c.in_ok-bytes.was ∙ ap (λ (p : ℕ × ℕ). get_or m.pages p.0 []) c.place-at.ensures)
-    (c.put.ensures ∙ ap (λ (p : ℕ × ℕ). page_with bytes p.1 c.args.slot.now) c.place-at.ensures)
-    (subst (λ (p : ℕ × ℕ). PageWritten m p.0 page c.write.result m') c.place-at.ensures c.write.ensures)
+    (read_page m _ c.read.result bytes c.read.ensures c.in_ok-bytes.was ∙ ap (λ (p : ℕ × ℕ). get_or m.pages p.0 []) c.page_and_place-at.ensures)
+    (c.put.ensures ∙ ap (λ (p : ℕ × ℕ). page_with bytes p.1 c.args.slot.now) c.page_and_place-at.ensures)
+    (subst (λ (p : ℕ × ℕ). PageWritten m p.0 page c.write.result m') c.page_and_place-at.ensures c.write.ensures)

@@ -21,5 +21,5 @@ returns g c =
     let bytes = c.in_ok-bytes.bytes in
     let was : c.read.result ≡ Ok bytes = search rules in
     rw next (read_slot m self.len self.last on c.in_ok-n.n bytes c.slot.result (omega arith)
-    (read_page m _ c.read.result bytes c.read.ensures was ∙ ap (λ (p : ℕ × ℕ). get_or m.pages p.0 []) c.place-at.ensures)
-    (c.slot.ensures ∙ ap (λ (p : ℕ × ℕ). slot_in bytes p.1) c.place-at.ensures))
+    (read_page m _ c.read.result bytes c.read.ensures was ∙ ap (λ (p : ℕ × ℕ). get_or m.pages p.0 []) c.page_and_place-at.ensures)
+    (c.slot.ensures ∙ ap (λ (p : ℕ × ℕ). slot_in bytes p.1) c.page_and_place-at.ensures))
