@@ -25,13 +25,13 @@ abbrev pub advanced : PowerPlan → PowerPlan
 advanced p = record { loss = nearer p.loss; raise = p.raise; operations = min (p.operations + 1) (2 ^ 32 - 1) }
 
 -- what is lost in the next operation
-abbrev pub come : Option Loss → Option Choice
-come None = None
-come (Some l) = cond (l.after == 0) (Some l.choice) None
+abbrev pub lost_now : Option Loss → Option Choice
+lost_now None = None
+lost_now (Some l) = cond (l.after == 0) (Some l.choice) None
 
 -- the next operation loses power where its turn has come
 abbrev pub loss : PowerPlan → Option Choice
-loss p = come p.loss
+loss p = lost_now p.loss
 
 -- with Old a lost write leaves the old page, else the new one
 abbrev pub keeps_old : Choice → Bool

@@ -103,15 +103,16 @@ impl Fields {
     pub(crate) fn read(bytes: &[u8; 60]) -> Result<Fields, Misfit>
         ensures { result ≡ read_fields bytes.now }
     {
-        let kind = SlotKind::try_from(bytes[0])?;
-        let [_, page, 0, 0, .., 0, 0, 0, 0] = &bytes[..] else {
+        let [number, page, ..] = *bytes;
+        let kind = SlotKind::try_from(number)?;
+        let [_, _, 0, 0, .., 0, 0, 0, 0] = &bytes[..] else {
             return Err(Misfit::UnusedNotZero);
         };
         let mut change = [0; 40];
         change.copy_from_slice(&bytes[16..56]);
         Ok(Fields {
             kind,
-            page: *page,
+            page,
             job: number_at(bytes, 4),
             lrc: number_at(bytes, 8),
             link: number_at(bytes, 12),
