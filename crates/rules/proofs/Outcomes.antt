@@ -11,7 +11,7 @@ use Rattle.device.specs.declared.log_store.LogFault.{LogFault}
 use Rattle.device.specs.PageStores.{PageWritten}
 use Rattle.device.specs.LogStores.{LogModel, SlotAppended, LogForced}
 use Rattle.rules.specs.declared.refusal.Refusal.{Refusal}
-use Rattle.rules.specs.Plans.{Op, append, force, write, Plan, asks, powers_on, performs, Did, Failed, Performed, done, next, Does, refused, granted, began, performed, powered_on}
+use Rattle.rules.specs.Plans.{Op, append, force, write, Plan, asks, insists, powers_on, performs, Did, Failed, Performed, done, next, Does, refused, granted, stopped, passed, began, performed, powered_on}
 use Rattle.rules.specs.Runner.{Failure, Left, old, new, without_slot, with_its_slot, more, fails_now, raised, Made, append_by, append_in, append_with, force_by, force_with, write_by, write_in, write_with, run_op, run_ops, run, go_on, later}
 use Rattle.rules.specs.Examples.{Event, Point, history, Reached}
 use Rattle.rules.specs.Ledger.{Ledger}
@@ -132,19 +132,24 @@ module _ {C : Type 0} (m : Meaning C) where
   pub run_does : {A : Type 0} (f : Failure) (p : Plan C A) (w : World) → Held w.devices → Does m p w (run m f p w).answer (run m f p w).world
   run_does f (asks true why p) w h = granted refl (run_does f p w h)
   run_does f (asks false why p) w h = refused refl
+  run_does f (insists true why p) w h = passed refl (run_does f p w h)
+  run_does f (insists false why p) w h = stopped refl
   run_does f (powers_on g) w h = began (powered_on w.devices) refl (run_does f (g (powered_on w.devices)) _ (held_powered_on w.devices h))
   run_does f (performs ops r after) w h = performed (ops_outcome r after f ops w.devices h)
 
   pub held_does : {A : Type 0} {p : Plan C A} {w v : World} {r : Result A Refusal} → Does m p w r v → Held w.devices → Held v.devices
   held_does (refused e) h = h
   held_does (granted e x) h = held_does x h
+  held_does (stopped e) h = h
+  held_does (passed e x) h = held_does x h
   held_does {w = w} (began d e x) h = held_does x (subst Held (sym e) (held_powered_on w.devices h))
   held_does (performed x) h = held_performed x h
 
   pub held_reached : {h : Ledger C} {w : World} → Reaches m h w → Held w.devices
   held_reached (made n c a b p q r s) = omega arith
   held_reached (called c r x y) = held_does y (held_reached x)
-  held_reached (remade a b x) = held_reached x
+  held_reached (remade {w = w} true a b x) = held_powered_on w.devices (held_reached x)
+  held_reached (remade false a b x) = held_reached x
 
   -- a history of calls with their fates is a run
   pub history_reached : (es : List Event) (s : Point C) → Reached m s → Reached m (history m es s)

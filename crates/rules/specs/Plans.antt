@@ -25,10 +25,12 @@ pub data Op (C : Type 0) : Type 0 where
   force : Op C
   write : ℕ → Page → Op C
 
--- A question that is answered no refuses the call and alters nothing. A call that powers the devices on forgets what the server held, and goes
--- on by what they hold then. Last come operations, with the answer and the memory that follow if all of them are done.
+-- A question that is answered no refuses the call and alters nothing; one that is insisted on also takes the server out of service. A call that powers
+-- the devices on forgets what the server held, and goes on by what they hold then. Last come operations, with the answer and the memory that
+-- follow if all of them are done.
 pub data Plan (C A : Type 0) : Type 0 where
   asks : Bool → Refusal → Plan C A → Plan C A
+  insists : Bool → Refusal → Plan C A → Plan C A
   powers_on : (Devices → Plan C A) → Plan C A
   performs : List (Op C) → Result A Refusal → Memory → Plan C A
 
@@ -79,6 +81,9 @@ module _ {C : Type 0} (m : Meaning C) where
   pub data Does {A : Type 0} : Plan C A → World → Result A Refusal → World → Type 0 where
     refused : {b : Bool} {why : Refusal} {p : Plan C A} {w : World} → b ≡ false → Does (asks b why p) w (Err why) w
     granted : {b : Bool} {why : Refusal} {p : Plan C A} {w v : World} {r : Result A Refusal} → b ≡ true → Does p w r v → Does (asks b why p) w r v
+    stopped : {b : Bool} {why : Refusal} {p : Plan C A} {w : World} → b ≡ false
+        → Does (insists b why p) w (Err why) (record { devices = w.devices; memory = out })
+    passed : {b : Bool} {why : Refusal} {p : Plan C A} {w v : World} {r : Result A Refusal} → b ≡ true → Does p w r v → Does (insists b why p) w r v
     began : {f : Devices → Plan C A} {w v : World} {r : Result A Refusal} (d : Devices) → d ≡ powered_on w.devices
         → Does (f d) (record { devices = d; memory = out }) r v → Does (powers_on f) w r v
     performed : {ops : List (Op C)} {answer : Result A Refusal} {after : Memory} {w v : World} {r : Result A Refusal}

@@ -15,11 +15,11 @@ use Rattle.recovery_log.specs.Log.{Log, next_by}
 use Rattle.rules.specs.declared.refusal.Refusal.{Refusal}
 use Rattle.rules.specs.declared.refusal.Refusal.TheVariants.{SizesOutOfRange, NotTheNextPass, NoJobPlace, LrcOutOfOrder, LogFull, LogUnreadable, StoreAhead}
 use Rattle.rules.specs.declared.table.JobEntry.{JobEntry}
-use Rattle.rules.specs.Plans.{force, Plan, asks, powers_on, performs}
+use Rattle.rules.specs.Plans.{force, Plan, asks, insists, powers_on, performs}
 use Rattle.rules.specs.Playing.{play}
 use Rattle.rules.specs.Reading.{known, at, up_to, scan, then, last_end}
-use Rattle.rules.specs.Service.{refuse, give_up, with_power, copy_of, has_place, Work, with_slot, taken_back, change_of, appends}
-use Rattle.rules.specs.State.{Devices, Memory, out, analysed, redone, serving, World, Found, Working, size, slots, log_length}
+use Rattle.rules.specs.Service.{ready, copy_of, has_place, Work, with_slot, taken_back, change_of, appends}
+use Rattle.rules.specs.State.{Devices, out, analysed, redone, serving, World, Found, Working, is_analysed, is_redone, found_in_memory, working, size, slots, log_length, sizes_legal}
 use Rattle.rules.specs.Tables.{Jobs, Dirty, new_job, entered, is_job, with_next, without_job, find_page, with_dirty, least_start}
 
 pub record Tables : Type 0 where
@@ -28,10 +28,6 @@ pub record Tables : Type 0 where
 
 abbrev pub tables : Jobs → Dirty → Tables
 tables jobs dirty = record { jobs = jobs; dirty = dirty }
-
--- 1: the sizes are legal
-abbrev pub sizes_legal : Devices → Bool
-sizes_legal d = nat_le 1 (size d) && (nat_le (size d) 64 && (nat_le 8 d.log.capacity && nat_le d.log.capacity 4096))
 
 -- Analysis: an entry of a checkpoint, and an event of a job
 
@@ -89,7 +85,7 @@ module _ {C : Type 0} where
   from_end L e (Some (Checkpoint (OpenJob j n))) = Err LogUnreadable
   from_end L e (Some (Checkpoint (Complete b))) = from_begin L e b (at L b)
 
-  -- the last checkpoint whose end stands, or slot 1 with empty tables
+  -- the checkpoint whose end is slot e, or slot 1 with empty tables where e is 0
   abbrev pub start_at : Log C → ℕ → Result Start Refusal
   start_at L e = cond (e == 0) (Ok (record { begin = 1; found = tables [] [] })) (from_end L e (at L e))
 
@@ -100,7 +96,7 @@ module _ {C : Type 0} where
   found_in L e = then (start_at L e) (found_from L)
 
   abbrev pub analysed_plan : Result Found Refusal → Plan C (ℕ × ℕ × ℕ)
-  analysed_plan (Err why) = give_up why
+  analysed_plan (Err why) = performs [] (Err why) out
   analysed_plan (Ok f) = performs [] (Ok (f.first, length f.jobs, length f.dirty)) (analysed f)
 
 -- Redo
@@ -164,7 +160,7 @@ module _ {C : Type 0} (m : Meaning C) where
   replay dirty n (Some (Checkpoint p)) s = Ok s
 
   abbrev pub redone_plan : Found → ℕ → Result Replay Refusal → Plan C (ℕ × ℕ)
-  redone_plan f from (Err why) = give_up why
+  redone_plan f from (Err why) = performs [] (Err why) out
   redone_plan f from (Ok s) = performs [] (Ok (from, s.count))
       (redone (record { copies = s.copies; jobs = f.jobs; first = cond (from == 0) f.first (min f.first from) }))
 
@@ -173,15 +169,17 @@ module _ {C : Type 0} (m : Meaning C) where
   replayed d dirty copies = let from = least_start dirty in
       cond (from == 0) (Ok (record { copies = copies; count = 0 })) (scan from (replay dirty) (record { copies = copies; count = 0 }) (whole d))
 
-  abbrev pub redo_found : World → Memory → Plan C (ℕ × ℕ)
-  redo_found w out = refuse NotTheNextPass w
-  redo_found w (redone x) = refuse NotTheNextPass w
-  redo_found w (serving x) = refuse NotTheNextPass w
-  redo_found w (analysed f) = let d = w.devices in let copies = map page_of d.pages.pages in
-      with_power d (cond (none_ahead (log_length d) copies) (redone_plan f (least_start f.dirty) (replayed d f.dirty copies)) (give_up StoreAhead))
+  abbrev pub stored_pages : Devices → List Page
+  stored_pages d = map page_of d.pages.pages
 
+  abbrev pub redo_in : Devices → Found → Plan C (ℕ × ℕ)
+  redo_in d f =
+      insists (none_ahead (log_length d) (stored_pages d)) StoreAhead
+      (redone_plan f (least_start f.dirty) (replayed d f.dirty (stored_pages d)))
+
+  -- 2: redo is the server's next pass
   abbrev pub redo_plan : World → Plan C (ℕ × ℕ)
-  redo_plan w = redo_found w w.memory
+  redo_plan w = asks (is_analysed w.memory) NotTheNextPass (ready w.devices (redo_in w.devices (found_in_memory w.memory)))
 
   -- Undo
 
@@ -239,11 +237,9 @@ module _ {C : Type 0} (m : Meaning C) where
   undone_plan x u None = performs (appends u.work.appended (force ∷ [])) (Ok (u.compensations, u.ends))
       (serving (record { copies = u.work.copies; jobs = u.jobs; first = x.first }))
 
-  abbrev pub undo_redone : World → Memory → Plan C (ℕ × ℕ)
-  undo_redone w out = refuse NotTheNextPass w
-  undo_redone w (analysed x) = refuse NotTheNextPass w
-  undo_redone w (serving x) = refuse NotTheNextPass w
-  undo_redone w (redone x) = let e = undone w.devices x in with_power w.devices (undone_plan x e.state e.why)
+  abbrev pub undo_in : Devices → Working → Plan C (ℕ × ℕ)
+  undo_in d x = let e = undone d x in undone_plan x e.state e.why
 
+  -- 2: undo is the server's next pass
   abbrev pub undo_plan : World → Plan C (ℕ × ℕ)
-  undo_plan w = undo_redone w w.memory
+  undo_plan w = asks (is_redone w.memory) NotTheNextPass (ready w.devices (undo_in w.devices (working w.memory)))

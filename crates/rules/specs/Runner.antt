@@ -9,7 +9,7 @@ use Rattle.device.specs.LogStores.{LogModel, state, with_slot, new_slot}
 use Rattle.rules.specs.declared.refusal.Refusal.{Refusal}
 use Rattle.rules.specs.declared.refusal.Refusal.TheVariants.{PageOutside, LogFull, PowerLost}
 use Rattle.rules.specs.declared.refusal.Device.TheVariants as device
-use Rattle.rules.specs.Plans.{Op, append, force, write, Plan, asks, powers_on, performs, with_pages, with_log, powered_on}
+use Rattle.rules.specs.Plans.{Op, append, force, write, Plan, asks, insists, powers_on, performs, with_pages, with_log, powered_on}
 use Rattle.rules.specs.State.{Devices, Memory, out, World}
 
 -- what is left where power is lost: of a page the old or the new; of an append the log without its slot, with how many slots more forced, or with it;
@@ -130,5 +130,6 @@ module _ {C : Type 0} (m : Meaning C) where
 
   abbrev pub run : {A : Type 0} → Failure → Plan C A → World → Ran A
   run f (asks b why p) w = elim b [ true ↦ run f p w | false ↦ ran (Err why) w.devices w.memory ]
+  run f (insists b why p) w = elim b [ true ↦ run f p w | false ↦ ran (Err why) w.devices out ]
   run f (powers_on g) w = let d = powered_on w.devices in run f (g d) (record { devices = d; memory = out })
   run f (performs ops r memory) w = run_ops r memory f ops w.devices

@@ -4,10 +4,10 @@ use Rattle.format.specs.Changes.{Meaning}
 use Rattle.rules.specs.declared.refusal.Refusal.{Refusal}
 use Rattle.rules.specs.Numbers.{number_of}
 use Rattle.rules.specs.Ledger.{Ledger, empty, with_entry, with_kept, with_doubt, settled}
-use Rattle.rules.specs.Plans.{Plan, Does}
+use Rattle.rules.specs.Plans.{Plan, Does, powered_on}
 use Rattle.rules.specs.Restart.{whole, analysis_plan, redo_plan, undo_plan}
-use Rattle.rules.specs.Service.{open_plan, fetch_plan, record_plan, ship_plan, write_out_plan, commit_plan, abort_plan, look_plan, checkpoint_plan}
-use Rattle.rules.specs.State.{Devices, out, World}
+use Rattle.rules.specs.Service.{in_service, open_in, fetch_in, record_in, ship_in, write_out_in, commit_in, abort_in, look_in, checkpoint_in}
+use Rattle.rules.specs.State.{Devices, out, World, Working}
 
 -- Calls, with the job, the page, and what else they are given: a buffer's length, an LRC, bytes
 
@@ -46,16 +46,20 @@ Answer undo = ℕ × ℕ
 Answer (service c) = Answers c
 
 module _ {C : Type 0} (m : Meaning C) where
+  -- the plan of a call once the server is known to serve
+  abbrev pub in_service_plan : (c : ServiceCall) → Devices → Working → Plan C (Answers c)
+  in_service_plan opens d s = open_in m d s
+  in_service_plan (fetches j p n) d s = fetch_in m j p n d s
+  in_service_plan (records j p l b) d s = record_in m j p l b d s
+  in_service_plan (ships j p b) d s = ship_in m j p b d s
+  in_service_plan (writes_out p) d s = write_out_in m p d s
+  in_service_plan (commits j) d s = commit_in m j d s
+  in_service_plan (aborts j) d s = abort_in m j d s
+  in_service_plan (looks p n) d s = look_in m p n d s
+  in_service_plan checkpoints d s = checkpoint_in m d s
+
   abbrev pub service_plan : (c : ServiceCall) → World → Plan C (Answers c)
-  service_plan opens w = open_plan m w
-  service_plan (fetches j p n) w = fetch_plan m w j p n
-  service_plan (records j p l b) w = record_plan m w j p l b
-  service_plan (ships j p b) w = ship_plan m w j p b
-  service_plan (writes_out p) w = write_out_plan m w p
-  service_plan (commits j) w = commit_plan m w j
-  service_plan (aborts j) w = abort_plan m w j
-  service_plan (looks p n) w = look_plan m w p n
-  service_plan checkpoints w = checkpoint_plan m w
+  service_plan c w = in_service w (in_service_plan c w.devices)
 
   abbrev pub plan_of : (c : Call) → World → Plan C (Answer c)
   plan_of analysis w = analysis_plan m w
@@ -122,16 +126,21 @@ module _ {C : Type 0} (m : Meaning C) where
     log = record { capacity = d.log.capacity; slots = d.log.slots; forced = d.log.forced; powered = b };
   }
 
-  -- The process may end between calls and a server be made again, whatever power the devices then have. A process that ends within a call is that call
-  -- answered 17 at its next operation, and then a server made again.
+  -- what a server that is made again finds: the devices with whatever power they have then. A log that was made again before it has been powered on by
+  -- that, and is cut to its forced slots
+  abbrev pub left_over : Bool → Bool → Bool → Devices → Devices
+  left_over cut a b d = with_powers a b (cond cut (powered_on d) d)
+
+  -- The process may end between calls and a server be made again. A process that ends within a call is that call answered 17 at its next operation, or at
+  -- its last, and then a server made again; before the first operation it is as if the call had not been made, but for the power.
   pub data Reaches : Ledger C → World → Type 0 where
     made : (n capacity : ℕ) (a b : Bool) → 1 ≤ n → n ≤ 64 → 8 ≤ capacity → capacity ≤ 4096
         → Reaches empty (record { devices = blank n capacity a b; memory = out })
     called : {h : Ledger C} {w v : World} (c : Call) (r : Result (Answer c) Refusal) → Reaches h w → Does m (plan_of c w) w r v → Reaches (told c r v h) v
-    remade : {h : Ledger C} {w : World} (a b : Bool) → Reaches h w → Reaches h (record { devices = with_powers a b w.devices; memory = out })
+    remade : {h : Ledger C} {w : World} (cut a b : Bool) → Reaches h w → Reaches h (record { devices = left_over cut a b w.devices; memory = out })
 
   -- the second state is the first or comes after it in a run
   pub data Later (w : World) : World → Type 0 where
     now : Later w w
     after : {u v : World} (c : Call) (r : Result (Answer c) Refusal) → Later w u → Does m (plan_of c u) u r v → Later w v
-    anew : {u : World} (a b : Bool) → Later w u → Later w (record { devices = with_powers a b u.devices; memory = out })
+    anew : {u : World} (cut a b : Bool) → Later w u → Later w (record { devices = left_over cut a b u.devices; memory = out })

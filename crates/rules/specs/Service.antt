@@ -1,6 +1,6 @@
 -- The calls in service, each as its plan: its questions in order, then its operations, its answer and what the server holds after.
 -- Assumes nothing.
-use Rattle.std.specs.Prelude.{ℕ, zero, suc, ◌+◌, ◌%◌, ◌^◌, Bool, true, false, cond, not, ◌&&◌, ◌||◌, List, [], ◌∷◌, ◌++◌, map, length, Some, None, Ok, Err, Option, Result, ◌==◌, nat_le, nat_lt, slice_index_or, slice_set}
+use Rattle.std.specs.Prelude.{ℕ, zero, suc, ◌+◌, ◌%◌, ◌^◌, Bool, true, false, cond, not, ◌&&◌, ◌||◌, List, [], ◌∷◌, ◌++◌, map, length, is_some, Some, None, Ok, Err, Option, Result, ◌==◌, nat_le, nat_lt, slice_index_or, slice_set}
 use Rattle.std.specs.Str.{bytes_eq}
 use Rattle.format.specs.declared.page.Page.{Page}
 use Rattle.format.specs.declared.slot.Slot.{Slot}
@@ -17,34 +17,22 @@ use Rattle.recovery_log.specs.Log.{Log}
 use Rattle.rules.specs.declared.refusal.Refusal.{Refusal}
 use Rattle.rules.specs.declared.refusal.Refusal.TheVariants.{NotInService, NoJobPlace, JobNotOpen, PageOutside, BufferSize, NotHeld, HeldAlready, NotAChange, LrcOutOfOrder, ImageDiffers, CopyIncomplete, LogFull, LogUnreadable, PowerLost}
 use Rattle.rules.specs.declared.refusal.Device.TheVariants as device
-use Rattle.rules.specs.Plans.{Op, append, force, write, Plan, asks, performs}
+use Rattle.rules.specs.Plans.{Op, append, force, write, Plan, asks, insists, performs}
 use Rattle.rules.specs.Playing.{play, played, of_page, up_to_lrc, first_lacked, lacks, last_lrc}
 use Rattle.rules.specs.Reading.{known, at}
-use Rattle.rules.specs.State.{Devices, Memory, out, analysed, redone, serving, World, Working, size, slots, log_length, next_slot, free}
+use Rattle.rules.specs.State.{Devices, Memory, out, serving, World, Working, is_serving, working, size, slots, log_length, next_slot, free}
 use Rattle.rules.specs.Tables.{Jobs, new_job, entered, is_job, next_of, with_next, without_job, with_hold, held_by, held_by_another, is_held, owed}
 
 -- What the calls share
 
--- a refusal that alters nothing
-abbrev pub refuse : {C A : Type 0} → Refusal → World → Plan C A
-refuse why w = performs [] (Err why) w.memory
+-- What is asked in every stage but the first, right after the question of the stage: that both devices have power. No server finds it otherwise.
+abbrev pub ready : {C A : Type 0} → Devices → Plan C A → Plan C A
+ready d p = insists d.pages.powered (PowerLost device.Pages 0)
+    (insists d.log.powered (PowerLost device.Log 0) p)
 
--- a refusal that takes the server out of service
-abbrev pub give_up : {C A : Type 0} → Refusal → Plan C A
-give_up why = performs [] (Err why) out
-
--- both devices are asked for their power, right after the question of the stage; no server finds one without
-abbrev pub with_power : {C A : Type 0} → Devices → Plan C A → Plan C A
-with_power d p = cond d.pages.powered (cond d.log.powered p (give_up (PowerLost device.Log 0))) (give_up (PowerLost device.Pages 0))
-
-abbrev pub in_stage : {C A : Type 0} → World → Memory → (Working → Plan C A) → Plan C A
-in_stage w out f = refuse NotInService w
-in_stage w (analysed x) f = refuse NotInService w
-in_stage w (redone x) f = refuse NotInService w
-in_stage w (serving s) f = with_power w.devices (f s)
-
+-- 3: the server is in service
 abbrev pub in_service : {C A : Type 0} → World → (Working → Plan C A) → Plan C A
-in_service w f = in_stage w w.memory f
+in_service w f = asks (is_serving w.memory) NotInService (ready w.devices (f (working w.memory)))
 
 -- the copy of a page; there are as many copies as pages, and beyond them a page is blank
 abbrev pub copy_of : List Page → ℕ → Page
@@ -162,60 +150,66 @@ module _ {C : Type 0} (m : Meaning C) where
   abbrev pub has_room : Devices → Working → ℕ → Bool
   has_room d s n = nat_le (owed (log_read d s) s.jobs + n) (free d)
 
+  -- Each call by its plan in service, which goes by the devices and by what the server works with
+
   -- Open, fetch, record
 
-  abbrev pub open_plan : World → Plan C ℕ
-  open_plan w = in_service w (λ s. let d = w.devices in
+  abbrev pub open_in : Devices → Working → Plan C ℕ
+  open_in d s =
       asks (has_place s.jobs) NoJobPlace
       (asks (has_room d s 2) LogFull
-      (performs (append (Job Open (next_slot d)) ∷ force ∷ []) (Ok (next_slot d)) (with_jobs s (entered (new_job (next_slot d) 0) s.jobs)))))
+      (performs (append (Job Open (next_slot d)) ∷ force ∷ []) (Ok (next_slot d)) (with_jobs s (entered (new_job (next_slot d) 0) s.jobs))))
 
-  abbrev pub fetch_plan : World → ℕ → ℕ → ℕ → Plan C (List ℕ)
-  fetch_plan w j p buffer = in_service w (λ s.
+  abbrev pub fetch_in : ℕ → ℕ → ℕ → Devices → Working → Plan C (List ℕ)
+  fetch_in j p buffer d s =
       asks (is_job j s.jobs) JobNotOpen
-      (asks (in_store w.devices p) PageOutside
+      (asks (in_store d p) PageOutside
       (asks (holds_a_page buffer) BufferSize
       (asks (not (held_by_another j p s.jobs)) HeldAlready
-      (performs [] (Ok (page_bytes (copy_of s.copies p))) (with_jobs s (with_hold j p s.jobs)))))))
+      (performs [] (Ok (page_bytes (copy_of s.copies p))) (with_jobs s (with_hold j p s.jobs))))))
 
-  abbrev pub recorded : World → Working → ℕ → ℕ → ℕ → Option C → Plan C (Unit {0})
-  recorded w s j p lrc None = refuse NotAChange w
-  recorded w s j p lrc (Some c) = let d = w.devices in
-      asks (follows_last d s p lrc) LrcOutOfOrder
-      (asks (has_room d s 2) LogFull
-      (performs (append (Record (record { action = Put; page = p; job = j; lrc = lrc; link = next_of j s.jobs; change = c })) ∷ [])
-      (Ok tt) (with_jobs s (with_next j (next_slot d) s.jobs))))
+  -- the change as it is appended
+  abbrev pub change_for : ℕ → ℕ → ℕ → Working → C → PageRecord C
+  change_for j p lrc s c = record { action = Put; page = p; job = j; lrc = lrc; link = next_of j s.jobs; change = c }
 
-  abbrev pub record_plan : World → ℕ → ℕ → ℕ → List ℕ → Plan C (Unit {0})
-  record_plan w j p lrc bytes = in_service w (λ s.
+  -- (there is a change: that was asked)
+  abbrev pub recorded : ℕ → ℕ → ℕ → Devices → Working → Option C → Plan C (Unit {0})
+  recorded j p lrc d s None = performs [] (Err NotAChange) (serving s)
+  recorded j p lrc d s (Some c) = performs (append (Record (change_for j p lrc s c)) ∷ []) (Ok tt) (with_jobs s (with_next j (next_slot d) s.jobs))
+
+  abbrev pub record_in : ℕ → ℕ → ℕ → List ℕ → Devices → Working → Plan C (Unit {0})
+  record_in j p lrc bytes d s =
       asks (is_job j s.jobs) JobNotOpen
-      (asks (in_store w.devices p) PageOutside
+      (asks (in_store d p) PageOutside
       (asks (held_by j p s.jobs) NotHeld
-      (recorded w s j p lrc (m.reads bytes)))))
+      (asks (is_some (m.reads bytes)) NotAChange
+      (asks (follows_last d s p lrc) LrcOutOfOrder
+      (asks (has_room d s 2) LogFull
+      (recorded j p lrc d s (m.reads bytes)))))))
 
   -- Ship, write-out, look
 
-  abbrev pub ship_plan : World → ℕ → ℕ → List ℕ → Plan C (Unit {0})
-  ship_plan w j p image = in_service w (λ s. let d = w.devices in
+  abbrev pub ship_in : ℕ → ℕ → List ℕ → Devices → Working → Plan C (Unit {0})
+  ship_in j p image d s =
       asks (is_job j s.jobs) JobNotOpen
       (asks (in_store d p) PageOutside
       (asks (holds_a_page (length image)) BufferSize
       (asks (held_by j p s.jobs) NotHeld
       (asks (up_to_last d s p (number_at image 0)) LrcOutOfOrder
       (asks (gives_image d s p image) ImageDiffers
-      (performs [] (Ok tt) (with_copy s p (page_of image)))))))))
+      (performs [] (Ok tt) (with_copy s p (page_of image))))))))
 
-  abbrev pub write_out_plan : World → ℕ → Plan C (Unit {0})
-  write_out_plan w p = in_service w (λ s.
-      asks (in_store w.devices p) PageOutside
-      (performs (force ∷ write p (copy_of s.copies p) ∷ []) (Ok tt) w.memory))
+  abbrev pub write_out_in : ℕ → Devices → Working → Plan C (Unit {0})
+  write_out_in p d s =
+      asks (in_store d p) PageOutside
+      (performs (force ∷ write p (copy_of s.copies p) ∷ []) (Ok tt) (serving s))
 
-  abbrev pub look_plan : World → ℕ → ℕ → Plan C (List ℕ)
-  look_plan w p buffer = in_service w (λ s.
-      asks (in_store w.devices p) PageOutside
+  abbrev pub look_in : ℕ → ℕ → Devices → Working → Plan C (List ℕ)
+  look_in p buffer d s =
+      asks (in_store d p) PageOutside
       (asks (holds_a_page buffer) BufferSize
       (asks (not (is_held p s.jobs)) HeldAlready
-      (performs [] (Ok (page_bytes (copy_of s.copies p))) w.memory))))
+      (performs [] (Ok (page_bytes (copy_of s.copies p))) (serving s))))
 
   -- Commit
 
@@ -223,11 +217,11 @@ module _ {C : Type 0} (m : Meaning C) where
   abbrev pub held_complete : Devices → Working → ℕ → Bool
   held_complete d s j = each_held (λ p. not (lacks p (copy_of s.copies p).lrc (log_read d s))) (holds_of j s.jobs)
 
-  abbrev pub commit_plan : World → ℕ → Plan C ℕ
-  commit_plan w j = in_service w (λ s. let d = w.devices in
+  abbrev pub commit_in : ℕ → Devices → Working → Plan C ℕ
+  commit_in j d s =
       asks (is_job j s.jobs) JobNotOpen
       (asks (held_complete d s j) CopyIncomplete
-      (performs (append (Job Commit j) ∷ force ∷ []) (Ok (next_slot d)) (with_jobs s (without_job j s.jobs)))))
+      (performs (append (Job Commit j) ∷ force ∷ []) (Ok (next_slot d)) (with_jobs s (without_job j s.jobs))))
 
   -- the compensation of a change is appended and played
   abbrev pub taken_back : PageRecord C → Work C → Work C
@@ -253,10 +247,10 @@ module _ {C : Type 0} (m : Meaning C) where
   abbrev pub completed : Devices → Working → ℕ → List Page
   completed d s j = at_held (λ p c. played m (of_page p) (log_read d s) c) (holds_of j s.jobs) s.copies
 
-  abbrev pub abort_plan : World → ℕ → Plan C (Unit {0})
-  abort_plan w j = in_service w (λ s. let d = w.devices in let n = next_of j s.jobs in
+  abbrev pub abort_in : ℕ → Devices → Working → Plan C (Unit {0})
+  abort_in j d s = let n = next_of j s.jobs in
       let e = all_back n j n (record { log = log_read d s; copies = completed d s j; appended = [] }) in
-      asks (is_job j s.jobs) JobNotOpen (aborted s j e.work e.why))
+      asks (is_job j s.jobs) JobNotOpen (aborted s j e.work e.why)
 
   -- Checkpoint
 
@@ -277,7 +271,7 @@ module _ {C : Type 0} (m : Meaning C) where
   checkpoint_slots d s = Checkpoint Begin ∷ (page_entries (log_read d s) 0 d.pages.pages
       ++ (job_entries s.jobs ++ Checkpoint (Complete (next_slot d)) ∷ []))
 
-  abbrev pub checkpoint_plan : World → Plan C ℕ
-  checkpoint_plan w = in_service w (λ s. let d = w.devices in let ss = checkpoint_slots d s in
+  abbrev pub checkpoint_in : Devices → Working → Plan C ℕ
+  checkpoint_in d s = let ss = checkpoint_slots d s in
       asks (has_room d s (length ss)) LogFull
-      (performs (map append ss ++ force ∷ []) (Ok (log_length d + length ss)) w.memory))
+      (performs (map append ss ++ force ∷ []) (Ok (log_length d + length ss)) (serving s))

@@ -1,0 +1,3 @@
+pub mod Compensations
+pub mod Promises
+pub mod AnyDevices

@@ -1,5 +1,0 @@
-use Rattle.server_rules.proofs.AnyDevices.{any_devices}
-use Rattle.server_rules.proofs.promises.any_devices.Goals as goal
-
-pub returns : goal.returns
-returns g c = any_devices g.K.Change.meaning g.met.K.Change.lawful

@@ -1,5 +1,0 @@
-use Rattle.server_rules.proofs.Promised.{blank_begins}
-use Rattle.server_rules.proofs.promises.blank_devices_begin.Goals as goal
-
-pub returns : goal.returns
-returns g c = blank_begins g.K.Change.meaning g.met.K.Change.lawful

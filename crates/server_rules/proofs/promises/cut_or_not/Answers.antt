@@ -1,5 +1,0 @@
-use Rattle.server_rules.proofs.Promised.{cut_or_not}
-use Rattle.server_rules.proofs.promises.cut_or_not.Goals as goal
-
-pub returns : goal.returns
-returns g c = cut_or_not g.K.Change.meaning g.met.K.Change.lawful

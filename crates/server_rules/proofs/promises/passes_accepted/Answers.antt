@@ -1,5 +1,0 @@
-use Rattle.server_rules.proofs.Promised.{never_refused}
-use Rattle.server_rules.proofs.promises.passes_accepted.Goals as goal
-
-pub returns : goal.returns
-returns g c = never_refused g.K.Change.meaning g.met.K.Change.lawful
