@@ -3,7 +3,7 @@ use Rattle.std.proofs.Common.{ℕ, ◌≤◌, true, List, refl, lit≤}
 use Rattle.changes.specs.Additions.{addition_meaning}
 use Rattle.format.specs.Changes.{Meaning}
 use Rattle.changes.specs.Patches.{patch_meaning}
-use Rattle.rules.specs.Examples.{Worked, ComeOut, RunsSo, Possible, Reached, Event, run_from_blank, begin, restart, three_changes, two_places, past_the_end, and_back, written_and_lost, only_lost, lost_again, not_yet_shipped}
+use Rattle.rules.specs.Examples.{Worked, ComeOut, RunsSo, Possible, Reached, Event, run_from_blank, begin, restart, three_changes, two_places, past_the_end, and_back, written_and_lost, then_looked_at, only_lost, lost_again, not_yet_shipped}
 use Rattle.rules.specs.Runs.{made, plan_of}
 use Rattle.rules.proofs.Outcomes.{run_does, history_reached}
 
@@ -19,6 +19,7 @@ come_out = record {
   written = refl;
   written_copy = refl;
   written_log = refl;
+  seen = refl;
   unwritten = refl;
   unwritten_copy = refl;
   unwritten_log = refl;
@@ -43,6 +44,7 @@ runs_so = record {
   sum = of_sixteen addition_meaning past_the_end;
   taken_back = of_sixteen addition_meaning and_back;
   written = of_sixteen patch_meaning written_and_lost;
+  seen = of_sixteen patch_meaning then_looked_at;
   unwritten = of_sixteen patch_meaning only_lost;
   cut = of_sixteen patch_meaning lost_again;
   unshipped = of_sixteen patch_meaning not_yet_shipped;

@@ -163,6 +163,13 @@ written_and_lost = two_jobs ++ calls (service (writes_out 0)) ∷ restart
 abbrev pub loser_written_out : Point Patch
 loser_written_out = run_from_blank patch_meaning 2 16 written_and_lost
 
+-- a look after that restart gives what job 1 committed
+abbrev pub then_looked_at : List Event
+then_looked_at = written_and_lost ++ calls (service (looks 0 256)) ∷ []
+
+abbrev pub committed_seen : Point Patch
+committed_seen = run_from_blank patch_meaning 2 16 then_looked_at
+
 abbrev pub only_lost : List Event
 only_lost = two_jobs ++ restart
 
@@ -213,6 +220,7 @@ pub record ComeOut : Type 0 where
   pub written : drop 13 loser_written_out.answers ≡ passes 1 1 1 2 0 1 1
   pub written_copy : copy_in loser_written_out 0 ≡ (3, 17)
   pub written_log : log_kinds loser_written_out ≡ 1 ∷ 2 ∷ 4 ∷ 1 ∷ 2 ∷ 3 ∷ 5 ∷ []
+  pub seen : drop 16 committed_seen.answers ≡ yes_with (page_with 3 17) ∷ []
   pub unwritten : drop 12 loser_not_written.answers ≡ passes 1 1 1 2 1 0 1
   pub unwritten_copy : copy_in loser_not_written 0 ≡ (1, 17)
   pub unwritten_log : log_kinds loser_not_written ≡ 1 ∷ 2 ∷ 4 ∷ 1 ∷ 5 ∷ []
@@ -231,6 +239,7 @@ pub record RunsSo : Type 0 where
   pub sum : Reached addition_meaning summed
   pub taken_back : Reached addition_meaning sum_taken_back
   pub written : Reached patch_meaning loser_written_out
+  pub seen : Reached patch_meaning committed_seen
   pub unwritten : Reached patch_meaning loser_not_written
   pub cut : Reached patch_meaning power_lost_in_undo
   pub unshipped : Reached patch_meaning checkpoint_unshipped
