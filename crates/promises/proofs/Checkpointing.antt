@@ -45,10 +45,6 @@ module _ {C : Type 0} where
   placed [] L = L
   placed (s ∷ ss) L = placed ss (Some s ∷ L)
 
-  placed_append : (ss ts : List (Slot C)) (L : Log C) → placed (ss ++ ts) L ≡ placed ts (placed ss L)
-  placed_append [] ts L = refl
-  placed_append (s ∷ ss) ts L = placed_append ss ts (Some s ∷ L)
-
   placed_length : (ss : List (Slot C)) (L : Log C) → length (placed ss L) ≡ length ss + length L
   placed_length [] L = omega arith
   placed_length (s ∷ ss) L = let k = placed_length ss (Some s ∷ L) in omega arith

@@ -3,7 +3,7 @@
 use Rattle.std.proofs.Common.{◌≡◌, ℕ, zero, suc, ◌+◌, ◌<◌, ◌≤◌, Bool, true, false, cond, eqb, ltb, ◌⊎◌, List, [], ◌∷◌, ◌++◌, length, get_or, take, is_some, is_ok, Some, None, Ok, Err, Option, Result, sym, refl, ap, ◌∙◌, subst, inl, inr, arith, length-append}
 use Rattle.std.specs.Result.{result_ok}
 use Rattle.std.proofs.lemmas.List.{length-take-le}
-use Rattle.std.proofs.lemmas.Bool.{eqb-true, eqb-false, eq-eqb, ne_eqb, lt-leb, le-ltb, cond_both}
+use Rattle.std.proofs.lemmas.Bool.{eqb-true, eq-eqb, ne_eqb, lt-leb, le-ltb, cond_both}
 use Rattle.std.proofs.lemmas.Bool.Decides.{nat_tests}
 use Rattle.format.specs.declared.slot.Slot.{Slot}
 use Rattle.format.specs.declared.slot.Slot.TheVariants.{Checkpoint}
@@ -13,8 +13,7 @@ use Rattle.format.specs.declared.slot.CheckpointPart.TheVariants.{Complete}
 use Rattle.format.specs.declared.slot.Misfit.{Misfit}
 use Rattle.format.specs.Bytes.{number_at}
 use Rattle.format.specs.Changes.{Meaning}
-use Rattle.format.specs.Slots.{kind_number, kind_numbered, read_slot, fields_of, slot_by}
-use Rattle.format.proofs.ByKind.{numbered_kind, kind_of_slot}
+use Rattle.format.specs.Slots.{kind_numbered, read_slot, fields_of, slot_by}
 use Rattle.format.proofs.Encoding.{Read, reads}
 use Rattle.device.specs.declared.log_store.LogFault.{LogFault}
 use Rattle.device.specs.declared.log_store.LogFault.TheVariants.{PowerLost, Full}
@@ -145,7 +144,6 @@ module _ {C : Type 0} (m : Meaning C) where
   -- an append puts its slot, whether it says so or loses power
   pub record SlotPut (d : Devices) (b : List ℕ) (r : Result (Unit {0}) LogFault) (l : LogModel) : Type 0 where
     pub grown : whole m (with_log d l) ≡ result_ok (read_slot m (size d) (suc (log_length d)) b) ∷ whole m d
-    pub slots_are : l.slots ≡ d.log.slots ++ b ∷ []
     pub length_is : length l.slots ≡ suc (log_length d)
     pub raised : d.log.forced ≤ l.forced
     pub held : l.forced ≤ suc (log_length d)
@@ -178,7 +176,6 @@ module _ {C : Type 0} (m : Meaning C) where
         → SlotPut d b r (state d.log (d.log.slots ++ b ∷ []) f t)
     puts f t e c lo hi answer = record {
       grown = whole_put;
-      slots_are = refl;
       length_is = rw length-append (omega arith);
       raised = lo;
       held = hi;
@@ -290,49 +287,3 @@ module _ {C : Type 0} (m : Meaning C) where
     pub last_end_found : (bs : List (List ℕ)) → ((n : ℕ) → 1 ≤ n → n ≤ length bs → is_some (at (known m size 1 bs) n) ≡ true)
         → (last_end bs ≡ 0) ⊎ ((b : ℕ) × (at (known m size 1 bs) (last_end bs) ≡ Some (Checkpoint (Complete b))))
     last_end_found bs all = search_ends [] bs 0 (omega arith) (inl refl) (λ n one le. all n one (omega (arith, known_length size 1 bs)))
-
-  -- An end has kind 9
-
-  end_of_kind : (size n : ℕ) (b : List ℕ) (y : ℕ) → Read m size n b (Checkpoint (Complete y)) → get_or b 0 0 ≡ 9
-  end_of_kind size n b y r =
-      sym (numbered_kind (get_or b 0 0) r.kind r.kind_is)
-      ∙ ap kind_number (sym (kind_of_slot m (fields_of r.kind b) (Checkpoint (Complete y)) r.kind r.slot_is))
-
-  -- no end stands after a number
-  abbrev NoneAfter : Log C → ℕ → Type 0
-  NoneAfter L e = (n b : ℕ) → e < n → at L n ≡ Some (Checkpoint (Complete b)) → ⊥
-
-  module _ (size : ℕ) where
-    none_step : (L : Log C) (b : List ℕ) (found : ℕ) (t : Bool) → eqb (get_or b 0 0) 9 ≡ t → NoneAfter L found
-        → NoneAfter (slot_at m size 1 (new_number L) b ∷ L) (cond t (new_number L) found)
-    none_step L b found true e was n y lt q =
-        let z : ◌≡◌ {A = Option (Slot C)} None (Some (Checkpoint (Complete y))) = sym (at_above n (slot_at m size 1 (new_number L) b ∷ L) lt) ∙ q in
-        let o : ◌≡◌ {A = ℕ} 0 1 = cc in omega arith
-    none_step L b found false e was n y lt q = go (eqb n (new_number L)) refl
-      where
-        x : Option (Slot C)
-        x = slot_at m size 1 (new_number L) b
-
-        go : (u : Bool) → eqb n (new_number L) ≡ u → ⊥
-        go true f =
-            let here : x ≡ Some (Checkpoint (Complete y)) = sym (ap (λ (v : Bool). cond v x (at L n)) f) ∙ q in
-            let nine = end_of_kind size (new_number L) b y (said size (new_number L) b _ (sym (slot_first size (length L) b) ∙ here)) in
-            eqb-false (get_or b 0 0) 9 e nine
-        go false f = was n y lt (sym (ap (λ (v : Bool). cond v x (at L n)) f) ∙ q)
-
-    search_none : (L : Log C) (bs : List (List ℕ)) (found : ℕ) → NoneAfter L found
-        → NoneAfter (read_on m size 1 L bs) (last_end_from (new_number L) found bs)
-    search_none L [] found was = was
-    search_none L (b ∷ bs) found was = let t = eqb (get_or b 0 0) 9 in
-        search_none (slot_at m size 1 (new_number L) b ∷ L) bs (cond t (new_number L) found) (none_step L b found t refl was)
-
-    -- no end stands after the one that is found
-    pub last_end_newest : (bs : List (List ℕ)) (n b : ℕ) → last_end bs < n → at (known m size 1 bs) n ≡ Some (Checkpoint (Complete b)) → ⊥
-    last_end_newest bs n b lt q = search_none [] bs 0 (λ k c l e. let o : ◌≡◌ {A = ℕ} 0 1 = cc in omega arith) n b lt q
-
-    -- and none at all where none is found
-    pub last_end_none : (bs : List (List ℕ)) → last_end bs ≡ 0 → (n b : ℕ) → at (known m size 1 bs) n ≡ Some (Checkpoint (Complete b)) → ⊥
-    last_end_none bs z zero b q =
-        let e : ◌≡◌ {A = Option (Slot C)} None (Some (Checkpoint (Complete b))) = sym (at_zero (known m size 1 bs)) ∙ q in
-        let o : ◌≡◌ {A = ℕ} 0 1 = cc in omega arith
-    last_end_none bs z (suc n) b q = last_end_newest bs (suc n) b (omega arith) q

@@ -1,9 +1,8 @@
 -- A slot that may stand next in a legal log fits at its number, so its bytes read back as that slot; and a page's bytes read back as that page. Assumes nothing.
-use Rattle.std.proofs.Common.{◌≡◌, ℕ, suc, ◌+◌, ◌^◌, ◌<◌, ◌≤◌, Bool, true, false, cond, eqb, List, [], ◌∷◌, length, Some, None, Option, Result, sym, refl, ap, ◌∙◌, arith}
+use Rattle.std.proofs.Common.{◌≡◌, ℕ, suc, ◌^◌, ◌<◌, ◌≤◌, Bool, true, false, cond, eqb, List, [], ◌∷◌, length, Some, None, Option, Result, sym, refl, ap, ◌∙◌, arith}
 use Rattle.std.specs.Result.{result_ok}
 use Rattle.std.specs.Str.{bytes_eq}
 use Rattle.std.proofs.lemmas.Slice.Eq.{bytes_eq-Decides}
-use Rattle.std.proofs.lemmas.List.{length-drop, get_or-drop}
 use Rattle.std.proofs.lemmas.Bool.{eqb-true, eq-eqb, le-leb, lt-ltb, cond_both}
 use Rattle.format.specs.declared.page.Page.{Page}
 use Rattle.format.specs.declared.slot.Slot.{Slot}
@@ -15,7 +14,6 @@ use Rattle.format.specs.declared.slot.JobEvent.{JobEvent}
 use Rattle.format.specs.declared.slot.JobEvent.TheVariants.{Open, Commit, End}
 use Rattle.format.specs.declared.slot.CheckpointPart.{CheckpointPart}
 use Rattle.format.specs.declared.slot.CheckpointPart.TheVariants.{Begin, DirtyPage, OpenJob, Complete}
-use Rattle.format.specs.Bytes.{Bytes}
 use Rattle.format.specs.Changes.{Meaning, Lawful, Content}
 use Rattle.format.specs.Pages.{page_bytes, page_of}
 use Rattle.format.specs.Slots.{Sized, read_slot, slot_bytes, slot_fields, slot_fits}
@@ -203,13 +201,6 @@ module _ {C : Type 0} (m : Meaning C) where
 
 pub page_written : (p : Page) → p.lrc < 2 ^ 32 → Content p.content → page_of (page_bytes p) ≡ p
 page_written p few h = page_reads p few
-
--- what 256 bytes hold is a page's content
-pub content_of : (b : List ℕ) → Bytes 256 b → Content (page_of b).content
-content_of b h = let n = h.size in record {
-  size = length-drop 4 b ∙ omega arith;
-  small = λ k. rw (get_or-drop 4 b k 0) (h.small (4 + k));
-}
 
 -- two images that ship finds the same are one
 pub same_image : (a b : List ℕ) → bytes_eq a b ≡ true → a ≡ b

@@ -81,12 +81,6 @@ module _ {C : Type 0} (m : Meaning C) where
   failed_onward {d = d} held (Failed.force_failed {l = l} x) = forced d _ l held x
   failed_onward {d = d} held (Failed.write_failed {s = s} x) = written d _ _ _ s held x
 
-  pub did_forever : {op : Op C} {d e : Devices} → Held d → Did m op d e → Forever d e
-  did_forever held x = (did_onward held x).forever
-
-  pub failed_forever : {op : Op C} {d e : Devices} {why : Refusal} → Held d → Failed m op d why e → Forever d e
-  failed_forever held x = (failed_onward held x).forever
-
   -- Power
 
   powered_on_onward : (d : Devices) → Held d → Onward d (powered_on d)
@@ -94,9 +88,6 @@ module _ {C : Type 0} (m : Meaning C) where
     forever = record { stands = ap (up_to d.log.forced) (whole_powered_on m d) ∙ up_to_up_to d.log.forced d.log.forced (whole m d) (omega arith); grows = omega arith };
     held = rw (length-take-le d.log.forced d.log.slots held) (omega arith);
   }
-
-  pub powered_on_forever : (d : Devices) → Held d → Forever d (powered_on d)
-  powered_on_forever d held = (powered_on_onward d held).forever
 
   left_over_onward : (d : Devices) (cut a b : Bool) → Held d → Onward d (left_over m cut a b d)
   left_over_onward d true a b held = let on = powered_on_onward d held in record { forever = record { stands = on.forever.stands; grows = on.forever.grows }; held = on.held }
@@ -119,10 +110,6 @@ module _ {C : Type 0} (m : Meaning C) where
       let on = subst (Onward w.devices) (sym e) (powered_on_onward w.devices held) in
       onward_then w.devices d v.devices on (does_onward on.held x)
   does_onward held (performed x) = performed_onward held x
-
-  pub does_forever : {A : Type 0} (p : Plan C A) (w v : World) (r : Result A Refusal) → w.devices.log.forced ≤ log_length w.devices → Does m p w r v
-      → Forever w.devices v.devices
-  does_forever p w v r held x = (does_onward held x).forever
 
   later_onward : {w v : World} → Held w.devices → Later m w v → Onward w.devices v.devices
   later_onward {w = w} held now = record { forever = forever_same w.devices; held = held }

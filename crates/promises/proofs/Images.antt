@@ -39,10 +39,6 @@ module _ {C : Type 0} (size capacity : ℕ) (m : Meaning C) where
   image_older M L p k same h le = refl
   image_older M L p k (more {s = s} {L = K} o) h le = image_more s K p k h (omega (arith, count_older M K p o)) ∙ image_older M K p k o h.0 le
 
-  pub image_zero : (L : Log C) (p : ℕ) → Legal size capacity L → image m L p 0 ≡ blank_page
-  image_zero [] p h = refl
-  image_zero (s ∷ L) p h = image_more s L p 0 h (omega arith) ∙ image_zero L p h.0
-
   -- from the count on there are no more
   pub image_above : (L : Log C) (p k l : ℕ) → Legal size capacity L → count L p ≤ k → count L p ≤ l → image m L p k ≡ image m L p l
   image_above [] p k l h a b = refl

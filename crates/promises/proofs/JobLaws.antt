@@ -1,5 +1,5 @@
 -- What a legal log says of its jobs: their numbers, their table, and the stacks of their pending changes. Assumes nothing.
-use Rattle.std.proofs.Common.{◌≡◌, ℕ, suc, ◌<◌, ◌≤◌, Bool, true, false, cond, ◌&&◌, ◌||◌, eqb, List, [], ◌∷◌, ◌++◌, length, is_some, Some, None, Option, unwrap_or, sym, refl, ap, ◌∙◌, subst, arith}
+use Rattle.std.proofs.Common.{◌≡◌, ℕ, suc, ◌<◌, ◌≤◌, Bool, true, false, cond, ◌&&◌, ◌||◌, eqb, List, [], ◌∷◌, length, is_some, Some, None, Option, unwrap_or, sym, refl, ap, ◌∙◌, subst, arith}
 use Rattle.std.specs.Option.{option_map}
 use Rattle.std.proofs.lemmas.Bool.{eqb-true, eq-eqb, ne_eqb, both_ways}
 use Rattle.format.specs.declared.slot.Slot.{Slot}
@@ -13,9 +13,9 @@ use Rattle.recovery_log.specs.Log.{Log, new_number, opens, commits, is_open, sta
 use Rattle.rules.specs.declared.table.JobEntry.{JobEntry}
 use Rattle.rules.specs.Reading.{at}
 use Rattle.rules.specs.Service.{change_of}
-use Rattle.rules.specs.Tables.{new_job, entered, find_job, is_job, next_of}
+use Rattle.rules.specs.Tables.{new_job, find_job, is_job, next_of}
 use Rattle.promises.proofs.Legal.{Legal, open_jobs, Turns, Follows, Recorded}
-use Rattle.promises.proofs.JobTables.{at_next, find_with_next, find_without_job, find_entered, length_with_next, length_without_job, length_entered, Ascending, ascending_with_next, ascending_without_job, ascending_entered, find_in, entered_above}
+use Rattle.promises.proofs.JobTables.{at_next, find_with_next, find_without_job, find_entered, length_with_next, length_without_job, length_entered, Ascending, ascending_with_next, ascending_without_job, ascending_entered, find_in}
 use Rattle.promises.proofs.Membership.{In, here, there}
 
 -- of a job the table has its number and its next, if it is open
@@ -115,13 +115,6 @@ module _ {C : Type 0} (size capacity : ℕ) where
       go true e = let k = open_old L j h e in absurd (omega arith)
       go false e = refl
 
-  pub fresh_stands : (f : JobEvent → Bool) (L : Log C) (j : ℕ) → Legal size capacity L → length L < j → stands f L j ≡ false
-  fresh_stands f L j h lt = go (stands f L j) refl
-    where
-      go : (t : Bool) → stands f L j ≡ t → t ≡ false
-      go true e = let k = stands_old f L j h e in absurd (omega arith)
-      go false e = refl
-
   -- a record's job is no fresh one
   other_job : (L : Log C) (r : PageRecord C) (j : ℕ) → Legal size capacity L → Recorded size L r → length L < j → eqb r.job j ≡ false
   other_job L r j h s lt = let k = open_old L r.job h s.opened in ne_eqb r.job j (λ p. omega arith)
@@ -219,9 +212,6 @@ module _ {C : Type 0} (size capacity : ℕ) where
       go : (b : Bool) → Some e ≡ told b e.job (next L e.job) → (b ≡ true) × (e ≡ new_job e.job (next L e.job))
       go true p = (refl, ap (λ o. unwrap_or o e) p)
       go false p = let z : ◌≡◌ {A = ℕ} 0 1 = cc in absurd (omega arith)
-
-  pub entered_last : (L : Log C) (n : ℕ) → Legal size capacity L → entered (new_job (new_number L) n) (open_jobs L) ≡ open_jobs L ++ new_job (new_number L) n ∷ []
-  entered_last L n h = entered_above (new_job (new_number L) n) (open_jobs L) (λ x i. let o = open_old L x.job h (table_entry L x h i).0 in omega arith)
 
   -- Stacks
 

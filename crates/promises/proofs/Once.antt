@@ -208,10 +208,6 @@ module _ {C : Type 0} (size capacity : ℕ) where
       let old = sound L h.0 in
       record { stacks = quiet _ L old (λ r q. let z : ◌≡◌ {A = ℕ} 0 1 = cc in omega arith); changes = changes_later _ L old h.1 }
 
-  -- every compensation stands for a change of its job
-  pub for_a_change : (L : Log C) → Legal size capacity L → (k : ℕ) (r : PageRecord C) → Compensation L k r → ChangeOf L (stands_for L k r) r.job
-  for_a_change L h = (sound L h).changes
-
   pub never_twice : (L : Log C) → Legal size capacity L → NeverTwice L
   never_twice [] h n k r w g f e = absurd (empty n r g)
   never_twice (s ∷ L) h n k r w g f e = go (seen s L n r g) (seen s L k w f) (never_twice L h.0 n k r w)

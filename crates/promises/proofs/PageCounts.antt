@@ -83,20 +83,6 @@ module _ {C : Type 0} where
   newest_unread first (s ∷ L) p h = rw (lt-ltb (new_number L) first h) (newest_unread first L p (omega arith))
 
 module _ {C : Type 0} (size capacity : ℕ) where
-  pub newest_none : (L : Log C) (p : ℕ) → Legal size capacity L → count L p ≡ 0 → newest_lrc L p ≡ None
-  newest_none [] p h e = refl
-  newest_none (None ∷ L) p h e = absurd h.1
-  newest_none (Some (Record r) ∷ L) p h e = let k = newest_none L p h.0 in grind (arith, nat_tests)
-  newest_none (Some (Job a j) ∷ L) p h e = newest_none L p h.0 e
-  newest_none (Some (Checkpoint c) ∷ L) p h e = newest_none L p h.0 e
-
-  pub newest_count : (L : Log C) (p : ℕ) → Legal size capacity L → 0 < count L p → newest_lrc L p ≡ Some (count L p)
-  newest_count [] p h e = absurd (omega arith)
-  newest_count (None ∷ L) p h e = absurd h.1
-  newest_count (Some (Record r) ∷ L) p h e = let k = newest_count L p h.0 in let n = h.1.numbered in grind (arith, nat_tests)
-  newest_count (Some (Job a j) ∷ L) p h e = newest_count L p h.0 e
-  newest_count (Some (Checkpoint c) ∷ L) p h e = newest_count L p h.0 e
-
   pub count_inside : (L : Log C) (p : ℕ) → Legal size capacity L → size ≤ p → count L p ≡ 0
   count_inside [] p h e = refl
   count_inside (None ∷ L) p h e = absurd h.1

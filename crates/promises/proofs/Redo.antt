@@ -1,7 +1,7 @@
 -- Redo never refuses after analysis, makes every copy its page with all its records, and does so whichever true tables were found. Assumes nothing.
 use Rattle.std.proofs.Common.{◌≡◌, ℕ, zero, suc, pred, ◌<◌, ◌≤◌, min, max, Bool, true, false, cond, eqb, ltb, leb, List, [], ◌∷◌, map, length, set, replicate, Some, None, Ok, Option, unwrap_or, sym, refl, ap, ◌∙◌, subst, ⊎_elim, arith}
 use Rattle.std.specs.Option.{option_map}
-use Rattle.std.proofs.lemmas.List.{length-set, get_or-set_same, get_or-set_other, get_or-map, get_or_past, length-map, ext_get_or}
+use Rattle.std.proofs.lemmas.List.{length-set, get_or-set_same, get_or-set_other, get_or-map, get_or_past, length-map}
 use Rattle.std.proofs.lemmas.Bool.{eqb-true, eqb-false, eq-eqb, ne_eqb, ltb-true, ltb-false, lt-ltb, le-ltb, le-leb, leb-false, cases_lt, and_from, and_right}
 use Rattle.format.specs.declared.page.Page.{Page}
 use Rattle.format.specs.declared.slot.Slot.{Slot}
@@ -13,11 +13,11 @@ use Rattle.recovery_log.specs.Log.{Log, new_number}
 use Rattle.rules.specs.declared.table.DirtyPage.{DirtyPage}
 use Rattle.rules.specs.Playing.{play}
 use Rattle.rules.specs.Reading.{up_to, scan, last_end}
-use Rattle.rules.specs.Plans.{powered_on, performs}
-use Rattle.rules.specs.Restart.{Replay, is_due, none_ahead, whole, found_in, replay, replayed, redone_plan, stored_pages}
+use Rattle.rules.specs.Plans.{powered_on}
+use Rattle.rules.specs.Restart.{Replay, is_due, none_ahead, whole, found_in, replay, replayed, stored_pages}
 use Rattle.rules.specs.Runs.{blank}
 use Rattle.rules.specs.Service.{copy_of}
-use Rattle.rules.specs.State.{Devices, Found, Working, redone, size, slots, log_length}
+use Rattle.rules.specs.State.{Devices, Found, Working, size, slots, log_length}
 use Rattle.rules.specs.Tables.{Dirty, find_page, least_from, least_start}
 use Rattle.promises.proofs.Legal.{count, image, whole_page, Legal, Recorded, Older, same}
 use Rattle.promises.proofs.Invariants.{start_of, Positive, Covers, stored, stored_lrcs, Durable, Analysed, First, Redone}
@@ -307,14 +307,6 @@ module _ {C : Type 0} (m : Meaning C) where
       one : res ≡ x.res
       one = let r = x.replays in cc
 
-  -- the copies are the same whichever true tables were found
-  pub redo_same : (d : Devices) (f g : Found) (r s : Replay) → Durable m d → Analysed m d f → Analysed m d g
-      → replayed m d f.dirty (stored_pages m d) ≡ Ok r → replayed m d g.dirty (stored_pages m d) ≡ Ok s → r.copies ≡ s.copies
-  redo_same d f g r s h a b e k =
-      let x = redo_done d f r h a e in
-      let y = redo_done d g s h b k in
-      ext_get_or blank_page r.copies s.copies (x.many ∙ sym y.many) (λ p _. x.copies p ∙ sym (y.copies p))
-
   -- The blank beginning: analysis finds nothing from slot 1 on, and redo plays nothing
 
   pub blank_found : (n capacity : ℕ) (a b : Bool) → found_in (whole m (powered_on (blank m n capacity a b))) (last_end (slots (powered_on (blank m n capacity a b))))
@@ -328,8 +320,3 @@ module _ {C : Type 0} (m : Meaning C) where
       blank_copies : (n : ℕ) → map page_of (replicate n (replicate 256 0)) ≡ replicate n blank_page
       blank_copies zero = refl
       blank_copies (suc n) = ap (λ cs. blank_page ∷ cs) (blank_copies n)
-
-  pub blank_redone : (n capacity : ℕ) (a b : Bool)
-      → redone_plan m (record { jobs = []; dirty = []; first = 1 }) 0 (replayed m (powered_on (blank m n capacity a b)) [] (stored_pages m (powered_on (blank m n capacity a b))))
-      ≡ performs [] (Ok (0, 0)) (redone (record { copies = replicate n blank_page; jobs = []; first = 1 }))
-  blank_redone n capacity a b = ap (redone_plan m (record { jobs = []; dirty = []; first = 1 }) 0) (blank_replayed n capacity a b)

@@ -1,5 +1,5 @@
 -- The table of jobs with and without what they hold, and who holds a page.
-use Rattle.std.proofs.Common.{◌≡◌, ℕ, zero, suc, ◌<◌, Bool, true, false, cond, not, ◌&&◌, ◌||◌, eqb, ltb, ◌⊎◌, List, [], ◌∷◌, length, get_or, set, replicate, is_some, Some, unwrap_or, sym, refl, ap, ◌∙◌, inl, inr, ⊎_elim, arith, length-set, get_or-set_same}
+use Rattle.std.proofs.Common.{◌≡◌, ℕ, zero, suc, Bool, true, false, cond, not, ◌&&◌, ◌||◌, eqb, ltb, ◌⊎◌, List, [], ◌∷◌, length, get_or, set, replicate, is_some, Some, unwrap_or, sym, refl, ap, ◌∙◌, inl, inr, ⊎_elim, arith, length-set}
 use Rattle.std.specs.Option.{option_map}
 use Rattle.std.proofs.lemmas.Bool.{eqb-true, false≢true, true≢false, and_parts, and_from, or_cases, or_parts, or_from, or_left, or_right, not_from_true}
 use Rattle.std.proofs.lemmas.Bool.Decides.{nat_tests}
@@ -205,16 +205,6 @@ held_only j p k q (x ∷ xs) h = go (eqb x.job j) refl h (held_only j p k q xs)
       where
         here_or : eqb x.job k ≡ true → get_or (set x.holds p true) q false ≡ true → (held_by k q (x ∷ xs) ≡ true) ⊎ ((k ≡ j) × (q ≡ p))
         here_or a b = ⊎_elim (λ g. inl (or_left _ _ (and_from _ _ a g))) (λ g. inr (sym (eqb-true _ _ a) ∙ eqb-true _ _ e, g)) (set_only x.holds p q b)
-
--- the job that asked holds it
-pub holds_it : (j p : ℕ) (jobs : Jobs) → is_job j jobs ≡ true → p < 64 → ((x : JobEntry) → In x jobs → length x.holds ≡ 64) → held_by j p (with_hold j p jobs) ≡ true
-holds_it j p [] h lt w = let z : ◌≡◌ {A = Bool} false true = h in absurd (false≢true z)
-holds_it j p (x ∷ xs) h lt w = go (eqb x.job j) refl h (λ g. holds_it j p xs g lt (λ y i. w y (there i)))
-  where
-    go : (t : Bool) → eqb x.job j ≡ t → is_some (cond t (Some x) (find_job j xs)) ≡ true → (is_job j xs ≡ true → held_by j p (with_hold j p xs) ≡ true)
-        → held_by j p (cond t (record { job = x.job; next = x.next; holds = set x.holds p true }) x ∷ with_hold j p xs) ≡ true
-    go true e g i = or_left _ _ (and_from _ _ e (get_or-set_same x.holds p true false (rw (w x (here refl)) lt)))
-    go false e g i = or_right _ _ (i g)
 
 -- As wide as there can be pages
 
