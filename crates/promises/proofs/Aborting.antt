@@ -34,7 +34,7 @@ use Rattle.promises.proofs.Piles.{pile_live}
 use Rattle.promises.proofs.Safety.{onto, SafeOps, Dids, none, Grown}
 use Rattle.promises.proofs.Serves.{first_older, ended_good, entries_alike, read_masked, job_open, job_next, jobs_distinct, copy_covers}
 use Rattle.promises.proofs.Shipping.{copy_from}
-use Rattle.promises.proofs.TableLaws.{bare_without, freed, held_without, held_without_less, wide_without, holds_of_held}
+use Rattle.promises.proofs.TableLaws.{bare_without, freed, held_without, held_without_less, holds_of_held}
 use Rattle.promises.proofs.TakingBack.{Backs, Taken, Spared, Wholes, Aborted, abort_true, aborted_legal, aborted_exclusive, aborted_jobs}
 use Rattle.promises.proofs.WritingOut.{older_onto}
 
@@ -210,7 +210,6 @@ module _ {C : Type 0} (m : Meaning C) (h : Ledger C) (d : Devices) (s : Working)
     serving_after = let v = st.1 in record {
       power = record { pages = ap (λ (x : PageModel). x.powered) g.pages ∙ v.power.pages; log = g.power v.power.log };
       jobs = bare_without j s.jobs ∙ (ap (without_job j) v.jobs ∙ (sym (aborted_jobs m (size d) d.log.capacity o a) ∙ ap open_jobs (sym g.log)));
-      wide = wide_without j s.jobs v.wide;
       one = λ i l p x y. v.one i l p (held_without_less j i p s.jobs x) (held_without_less j l p s.jobs y);
       changed = changed_after;
       many = t.many ∙ (completed_many m h d s j k v ∙ sym (grown_size m (Job End j ∷ a.slots) d e g));

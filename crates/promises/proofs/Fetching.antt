@@ -12,7 +12,7 @@ use Rattle.rules.specs.Tables.{with_hold, held_by, held_by_another}
 use Rattle.promises.proofs.Asking.{asked}
 use Rattle.promises.proofs.Invariants.{Kept, Serving, Stage, Good}
 use Rattle.promises.proofs.Serves.{nothing_done}
-use Rattle.promises.proofs.TableLaws.{bare_with_hold, wide_with_hold, held_more, held_only, is_held_more, not_another}
+use Rattle.promises.proofs.TableLaws.{bare_with_hold, held_more, held_only, is_held_more, not_another}
 
 module _ {C : Type 0} (m : Meaning C) where
   fetched : (j p : ℕ) (d : Devices) (s : Working) → held_by_another j p s.jobs ≡ false → Serving m d s
@@ -20,7 +20,6 @@ module _ {C : Type 0} (m : Meaning C) where
   fetched j p d s free sv = record {
     power = sv.power;
     jobs = bare_with_hold j p s.jobs ∙ sv.jobs;
-    wide = wide_with_hold j p s.jobs sv.wide;
     one = λ a b q ha hb. alone a b q (held_only j p a q s.jobs ha) (held_only j p b q s.jobs hb);
     changed = λ a x o i. held_more j p a x.record'.page s.jobs (sv.changed a x o i);
     many = sv.many;

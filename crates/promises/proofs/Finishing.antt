@@ -75,7 +75,6 @@ module _ {C : Type 0} (m : Meaning C) (law : Lawful m) where
   finished_serving d e x a r h grown pages power = record {
     power = record { pages = ap (λ (s : PageModel). s.powered) pages ∙ r.power.pages; log = power };
     jobs = sym (ap open_jobs grown ∙ a.table);
-    wide = λ y i. elim i [ ];
     one = λ j k p i. absurd (false≢true i);
     changed = λ j y o. absurd (both_ways _ (closed j) o);
     many = a.many ∙ (r.many ∙ ap (λ (s : PageModel). length s.pages) (sym pages));

@@ -8,7 +8,6 @@ use Rattle.format.specs.declared.slot.CheckpointPart.TheVariants.{Complete}
 use Rattle.format.specs.Changes.{Meaning}
 use Rattle.format.specs.Pages.{page_of}
 use Rattle.recovery_log.specs.Log.{Log, new_number, is_open, is_committed, Numbered, pending}
-use Rattle.rules.specs.declared.table.JobEntry.{JobEntry}
 use Rattle.rules.specs.declared.table.DirtyPage.{DirtyPage}
 use Rattle.rules.specs.Ledger.{Ledger, Entry, is_in}
 use Rattle.rules.specs.Reading.{at, up_to}
@@ -143,7 +142,6 @@ module _ {C : Type 0} (m : Meaning C) where
   pub record Serving (d : Devices) (s : Working) : Type 0 where
     pub power : Powered d
     pub jobs : bare s.jobs ≡ open_jobs (whole m d)
-    pub wide : (x : JobEntry) → In x s.jobs → length x.holds ≡ 64
     pub one : (j k p : ℕ) → held_by j p s.jobs ≡ true → held_by k p s.jobs ≡ true → j ≡ k
     pub changed : (j : ℕ) (x : Numbered C) → is_open (whole m d) j ≡ true → In x (pending (whole m d) j) → held_by j x.record'.page s.jobs ≡ true
     pub many : length s.copies ≡ size d

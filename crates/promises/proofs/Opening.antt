@@ -26,7 +26,7 @@ use Rattle.promises.proofs.Operations.{Forced, did_append, did_force, performed_
 use Rattle.promises.proofs.OwedLaws.{room_open}
 use Rattle.promises.proofs.Safety.{SafeAppend, SafeOps, Dids, none, next, Grown}
 use Rattle.promises.proofs.Serves.{room_read, ended_good, Goes, serves_on, entries_alike}
-use Rattle.promises.proofs.TableLaws.{bare_length, bare_entered, wide_entered, held_entered, is_held_entered}
+use Rattle.promises.proofs.TableLaws.{bare_length, bare_entered, held_entered, is_held_entered}
 
 -- a job's event that is no commit leaves the committed jobs
 pub committed_same : {C : Type 0} (e : JobEvent) (k : ℕ) (L : Log C) (j : ℕ) → commits e ≡ false → is_committed (Some (Job e k) ∷ L) j ≡ is_committed L j
@@ -82,7 +82,6 @@ module _ {C : Type 0} (m : Meaning C) (law : Lawful m) where
     goes_open : Goes m (Some (Job Open (next_slot d)) ∷ whole m d) (suc (length (whole m d))) s (entered (new_job (next_slot d) 0) s.jobs)
     goes_open = let n = next_slot d in let sv = st.1 in record {
       table = bare_entered n 0 s.jobs ∙ ap (entered (new_job n 0)) sv.jobs;
-      wide = wide_entered n 0 s.jobs sv.wide;
       one = λ i j p a b. sv.one i j p (sym (held_entered n 0 i p s.jobs) ∙ a) (sym (held_entered n 0 j p s.jobs) ∙ b);
       changed = λ j x o i. held_entered n 0 j x.record'.page s.jobs ∙ was _ j (λ q. absurd (in_none x (subst (λ xs. In x xs) (fresh j q) i))) (λ o. sv.changed j x o i) o;
       complete = λ p e. (sv.copies p).complete (sym (is_held_entered n 0 p s.jobs) ∙ e);

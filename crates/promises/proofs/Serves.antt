@@ -28,7 +28,7 @@ use Rattle.promises.proofs.OwedLaws.{room_now}
 use Rattle.promises.proofs.Images.{image_older}
 use Rattle.promises.proofs.PageCounts.{count_older, up_to_less, last_masked, lacks_masked}
 use Rattle.promises.proofs.Safety.{Dids, Ended, all_done, lost}
-use Rattle.promises.proofs.TableLaws.{bare_has, bare_next, Distinct, distinct_from_bare, Wide}
+use Rattle.promises.proofs.TableLaws.{bare_has, bare_next, Distinct, distinct_from_bare}
 
 -- Slots that are not read are of no job that is still open
 
@@ -185,7 +185,6 @@ module _ {C : Type 0} (m : Meaning C) where
   -- what is left to show of a server that serves on with the same copies
   pub record Goes (L : Log C) (forced : ℕ) (s : Working) (jobs : Jobs) : Type 0 where
     pub table : bare jobs ≡ open_jobs L
-    pub wide : Wide jobs
     pub one : (j k p : ℕ) → held_by j p jobs ≡ true → held_by k p jobs ≡ true → j ≡ k
     pub changed : (j : ℕ) (x : Numbered C) → is_open L j ≡ true → In x (pending L j) → held_by j x.record'.page jobs ≡ true
     pub complete : (p : ℕ) → is_held p jobs ≡ false → (copy_of s.copies p).lrc ≡ count L p
@@ -197,7 +196,6 @@ module _ {C : Type 0} (m : Meaning C) where
   serves_on d e L s jobs sv dur is older pages power g = record {
     power = record { pages = ap (λ (x : PageModel). x.powered) pages ∙ sv.power.pages; log = power };
     jobs = rw is g.table;
-    wide = g.wide;
     one = g.one;
     changed = rw is g.changed;
     many = sv.many ∙ sym (ap (λ (x : PageModel). length x.pages) pages);

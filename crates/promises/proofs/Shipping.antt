@@ -106,7 +106,6 @@ module _ {C : Type 0} (m : Meaning C) (law : Lawful m) where
           record {
             power = z.power;
             jobs = z.jobs;
-            wide = z.wide;
             one = z.one;
             changed = z.changed;
             many = length-set s.copies p (page_of bytes) ∙ z.many;

@@ -1,13 +1,11 @@
 -- The table of jobs with and without what they hold, and who holds a page.
-use Rattle.std.proofs.Common.{◌≡◌, ℕ, zero, suc, Bool, true, false, cond, not, ◌&&◌, ◌||◌, eqb, ltb, ◌⊎◌, List, [], ◌∷◌, length, get_or, set, replicate, is_some, Some, unwrap_or, sym, refl, ap, ◌∙◌, inl, inr, ⊎_elim, arith, length-set}
+use Rattle.std.proofs.Common.{◌≡◌, ℕ, zero, suc, Bool, true, false, cond, not, ◌&&◌, ◌||◌, eqb, ltb, ◌⊎◌, List, [], ◌∷◌, length, get_or, set, replicate, is_some, Some, unwrap_or, sym, refl, ap, ◌∙◌, inl, inr, ⊎_elim, arith}
 use Rattle.std.specs.Option.{option_map}
 use Rattle.std.proofs.lemmas.Bool.{eqb-true, false≢true, true≢false, and_parts, and_from, or_cases, or_parts, or_from, or_left, or_right, not_from_true}
 use Rattle.std.proofs.lemmas.Bool.Decides.{nat_tests}
-use Rattle.rules.specs.declared.table.JobEntry.{JobEntry}
 use Rattle.rules.specs.Service.{each_held, holds_of}
 use Rattle.rules.specs.Tables.{Jobs, new_job, entered, find_job, is_job, next_of, with_next, without_job, holds_page, with_hold, held_by, held_by_another, is_held}
 use Rattle.promises.proofs.Invariants.{bare}
-use Rattle.promises.proofs.Membership.{In, here, there}
 
 -- Without what they hold
 
@@ -205,49 +203,6 @@ held_only j p k q (x ∷ xs) h = go (eqb x.job j) refl h (held_only j p k q xs)
       where
         here_or : eqb x.job k ≡ true → get_or (set x.holds p true) q false ≡ true → (held_by k q (x ∷ xs) ≡ true) ⊎ ((k ≡ j) × (q ≡ p))
         here_or a b = ⊎_elim (λ g. inl (or_left _ _ (and_from _ _ a g))) (λ g. inr (sym (eqb-true _ _ a) ∙ eqb-true _ _ e, g)) (set_only x.holds p q b)
-
--- As wide as there can be pages
-
-abbrev pub Wide : Jobs → Type 0
-Wide jobs = (x : JobEntry) → In x jobs → length x.holds ≡ 64
-
-pub wide_with_next : (j n : ℕ) (jobs : Jobs) → Wide jobs → Wide (with_next j n jobs)
-wide_with_next j n [] w x i = w x i
-wide_with_next j n (y ∷ ys) w x (here e) = ap (λ (z : JobEntry). length z.holds) e ∙ go (eqb y.job j)
-  where
-    go : (t : Bool) → length (cond t (record { job = y.job; next = n; holds = y.holds }) y).holds ≡ 64
-    go true = w y (here refl)
-    go false = w y (here refl)
-wide_with_next j n (y ∷ ys) w x (there i) = wide_with_next j n ys (λ z k. w z (there k)) x i
-
-pub wide_with_hold : (j p : ℕ) (jobs : Jobs) → Wide jobs → Wide (with_hold j p jobs)
-wide_with_hold j p [] w x i = w x i
-wide_with_hold j p (y ∷ ys) w x (here e) = ap (λ (z : JobEntry). length z.holds) e ∙ go (eqb y.job j)
-  where
-    go : (t : Bool) → length (cond t (record { job = y.job; next = y.next; holds = set y.holds p true }) y).holds ≡ 64
-    go true = length-set y.holds p true ∙ w y (here refl)
-    go false = w y (here refl)
-wide_with_hold j p (y ∷ ys) w x (there i) = wide_with_hold j p ys (λ z k. w z (there k)) x i
-
-pub wide_entered : (j n : ℕ) (jobs : Jobs) → Wide jobs → Wide (entered (new_job j n) jobs)
-wide_entered j n [] w x (here e) = ap (λ (z : JobEntry). length z.holds) e
-wide_entered j n [] w x (there i) = w x i
-wide_entered j n (y ∷ ys) w x i = go (ltb j y.job) i (wide_entered j n ys (λ z k. w z (there k)))
-  where
-    go : (t : Bool) → In x (cond t (new_job j n ∷ y ∷ ys) (y ∷ entered (new_job j n) ys)) → Wide (entered (new_job j n) ys) → length x.holds ≡ 64
-    go true (here e) k = ap (λ (z : JobEntry). length z.holds) e
-    go true (there i) k = w x i
-    go false (here e) k = w x (here e)
-    go false (there i) k = k x i
-
-pub wide_without : (j : ℕ) (jobs : Jobs) → Wide jobs → Wide (without_job j jobs)
-wide_without j [] w x i = w x i
-wide_without j (y ∷ ys) w x i = go (eqb y.job j) i (wide_without j ys (λ z k. w z (there k)))
-  where
-    go : (t : Bool) → In x (cond t (without_job j ys) (y ∷ without_job j ys)) → Wide (without_job j ys) → length x.holds ≡ 64
-    go true i k = k x i
-    go false (here e) k = w x (here e)
-    go false (there i) k = k x i
 
 -- A test of each page that a job holds
 

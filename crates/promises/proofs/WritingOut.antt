@@ -75,7 +75,6 @@ module _ {C : Type 0} (m : Meaning C) where
     serving_on v = record {
       power = power;
       jobs = v.jobs ∙ sym (on open_jobs (λ c M. refl));
-      wide = v.wide;
       one = v.one;
       changed = λ j x o i. v.changed j x (sym (opened_on j) ∙ o) (subst (In x) (on (λ (M : Log C). pending M j) (λ c M. refl)) i);
       many = v.many ∙ sym sized;
