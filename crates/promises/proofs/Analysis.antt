@@ -15,7 +15,7 @@ use Rattle.rules.specs.declared.table.DirtyPage.{DirtyPage}
 use Rattle.rules.specs.Playing.{or_else}
 use Rattle.rules.specs.Reading.{at, up_to, scan, last_end}
 use Rattle.rules.specs.Restart.{Tables, tables, Start, analyse, analyse_event, start_at, found_in, whole}
-use Rattle.rules.specs.State.{Devices, Found, size, slots, log_length}
+use Rattle.rules.specs.State.{Devices, Found, size, slots}
 use Rattle.rules.specs.Tables.{Dirty, is_job, with_next, find_page, with_dirty}
 use Rattle.promises.proofs.Legal.{count, open_jobs, jobs_by, Legal, Turns, Older, same, more}
 use Rattle.promises.proofs.Invariants.{start_of, Positive, before, Covers, Truth, stored_lrcs, Durable, Powered, Analysed}
@@ -249,7 +249,7 @@ module _ {C : Type 0} (size capacity : ℕ) where
   found_true lrcs L e h le (inr u) =
       found_after lrcs L e u.start h u.reads u.from (omega (arith, u.until)) u.jobs u.pages u.positive
 
--- Over devices that hold a legal log, all of it forced
+-- Over devices that hold a legal log
 
 module _ {C : Type 0} (m : Meaning C) where
   -- slot e is the end of a complete checkpoint; 0 stands for none
@@ -268,13 +268,12 @@ module _ {C : Type 0} (m : Meaning C) where
     pub analysed : Analysed m d found
 
   -- whichever complete checkpoint it goes by
-  pub analysis_done : (d : Devices) (e : ℕ) → Durable m d → Powered m d → d.log.forced ≡ log_length d → EndsAt d e → e ≤ length (whole m d) → AnalysisTrue d e
-  analysis_done d e h power forced ends le = record {
+  pub analysis_done : (d : Devices) (e : ℕ) → Durable m d → Powered m d → EndsAt d e → e ≤ length (whole m d) → AnalysisTrue d e
+  analysis_done d e h power ends le = record {
     found = x.found;
     finds = x.finds;
     analysed = record {
       power = power;
-      all_forced = forced;
       jobs = x.jobs;
       pages = x.pages;
       positive = x.positive;

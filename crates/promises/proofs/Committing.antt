@@ -98,7 +98,6 @@ module _ {C : Type 0} (m : Meaning C) (law : Lawful m) where
         committed = λ i e. let q = k.book.committed i e in grind (arith, nat_tests);
         kept = k.book.kept;
         old = k.book.old;
-        old_doubts = λ i e. ⊎_elim (λ q. let a = eqb-true j i q in let b = st.1.opened j open_now in omega arith) (k.book.old_doubts i) (or_cases (eqb j i) (is_in i h.doubtful) e);
       };
     }
 
@@ -144,7 +143,6 @@ module _ {C : Type 0} (m : Meaning C) (law : Lawful m) where
         committed = λ i c. let q = k'.book.committed i c in grind (arith, nat_tests);
         kept = λ i c. ⊎_elim (kept i) (k'.book.kept i) (or_cases (eqb j i) (is_in i h.kept) c);
         old = k'.book.old;
-        old_doubts = λ i c. k'.book.old_doubts i (or_right _ _ c);
       };
     }
       where

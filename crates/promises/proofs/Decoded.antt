@@ -2,7 +2,6 @@
 -- and where the search for the last end of a checkpoint ends. Assumes nothing.
 use Rattle.std.proofs.Common.{◌≡◌, ℕ, zero, suc, ◌+◌, ◌<◌, ◌≤◌, Bool, true, false, cond, eqb, ltb, ◌⊎◌, List, [], ◌∷◌, ◌++◌, length, get_or, take, is_some, is_ok, Some, None, Ok, Err, Option, Result, sym, refl, ap, ◌∙◌, subst, inl, inr, arith, length-append}
 use Rattle.std.specs.Result.{result_ok}
-use Rattle.std.proofs.lemmas.List.{length-take-le}
 use Rattle.std.proofs.lemmas.Bool.{eqb-true, eq-eqb, ne_eqb, lt-leb, le-ltb, cond_both}
 use Rattle.std.proofs.lemmas.Bool.Decides.{nat_tests}
 use Rattle.format.specs.declared.slot.Slot.{Slot}
@@ -69,9 +68,6 @@ pub last_end_inside : (bs : List (List ℕ)) → last_end bs ≤ length bs
 last_end_inside bs = omega (arith, last_end_below 1 0 bs (omega arith))
 
 -- Power that comes back leaves the forced slots
-
-pub length_powered_on : (d : Devices) → d.log.forced ≤ log_length d → log_length (powered_on d) ≡ d.log.forced
-length_powered_on d h = length-take-le d.log.forced d.log.slots h
 
 -- Bytes as slots
 

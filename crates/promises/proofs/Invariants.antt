@@ -85,13 +85,12 @@ module _ {C : Type 0} (m : Meaning C) where
     pub truths : (e b : ℕ) → at (whole m d) e ≡ Some (Checkpoint (Complete b)) → Truth (stored_lrcs d) (whole m d) e
 
   -- The ledger, at all times: the entries of committed jobs are their changes in the log; a commit in the log is of a job that is kept or doubtful, and
-  -- that of a kept job is forced; a job of the ledger has its open among the forced slots, so that its number is not used again
+  -- that of a kept job is forced; a job with an entry has its open among the forced slots, so that its number is not used again
   pub record Book (h : Ledger C) (d : Devices) : Type 0 where
     pub entries : (p : ℕ) → entries_by (is_committed (whole m d)) p h.entries ≡ pile_by (is_committed (whole m d)) (pile (whole m d) p)
     pub committed : (j : ℕ) → is_committed (whole m d) j ≡ true → (is_in j h.kept || is_in j h.doubtful) ≡ true
     pub kept : (j : ℕ) → is_in j h.kept ≡ true → is_committed (up_to d.log.forced (whole m d)) j ≡ true
     pub old : (e : Entry C) → In e h.entries → e.job ≤ d.log.forced
-    pub old_doubts : (j : ℕ) → is_in j h.doubtful ≡ true → j ≤ d.log.forced
 
   -- what holds at all times, whatever the power
   pub record Kept (h : Ledger C) (d : Devices) : Type 0 where
@@ -111,7 +110,6 @@ module _ {C : Type 0} (m : Meaning C) where
 
   pub record Analysed (d : Devices) (f : Found) : Type 0 where
     pub power : Powered d
-    pub all_forced : d.log.forced ≡ log_length d
     pub jobs : f.jobs ≡ open_jobs (whole m d)
     pub pages : Covers (stored_lrcs d) f.dirty (new_number (whole m d)) (whole m d)
     pub positive : Positive f.dirty
@@ -126,7 +124,6 @@ module _ {C : Type 0} (m : Meaning C) where
 
   pub record Redone (d : Devices) (s : Working) : Type 0 where
     pub power : Powered d
-    pub all_forced : d.log.forced ≡ log_length d
     pub jobs : s.jobs ≡ open_jobs (whole m d)
     pub many : length s.copies ≡ size d
     pub copies : (p : ℕ) → copy_of s.copies p ≡ whole_page m (whole m d) p

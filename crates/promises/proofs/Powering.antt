@@ -91,7 +91,6 @@ module _ {C : Type 0} (m : Meaning C) where
         committed = λ j c. or_left (is_in j now) false (found j c);
         kept = λ j i. rw all (left j i);
         old = k'.book.old;
-        old_doubts = λ j i. absurd (both_ways _ refl i);
       };
     },
     record { none = refl; exact = λ j. same j (is_in j now) (is_committed K j) (found j) (left j) },
@@ -144,5 +143,4 @@ module _ {C : Type 0} (m : Meaning C) where
         committed = λ j c. absurd (both_ways _ refl c);
         kept = λ j i. absurd (both_ways _ refl i);
         old = λ e i. elim i [ ];
-        old_doubts = λ j i. absurd (both_ways _ refl i);
       })

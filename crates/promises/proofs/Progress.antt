@@ -19,7 +19,7 @@ use Rattle.promises.proofs.Decoded.{whole_length}
 use Rattle.promises.proofs.Finishing.{closes_plain}
 use Rattle.promises.proofs.Invariants.{Kept, Powered, Analysed, Good}
 use Rattle.promises.proofs.Operations.{safe_did}
-use Rattle.promises.proofs.Powering.{powered_on_power, powered_on_forced, settles}
+use Rattle.promises.proofs.Powering.{powered_on_power, settles}
 use Rattle.promises.proofs.Redo.{none_ahead_true, ReplayedTrue, redo_replays, redone_with, redo_done}
 use Rattle.promises.proofs.Safety.{Safe, SafeOps, Dids}
 use Rattle.promises.proofs.Undoing.{AllUndone, undo_true}
@@ -77,7 +77,7 @@ module _ {C : Type 0} (m : Meaning C) (law : Lawful m) where
       k = (settles m h w.devices g.kept).0
 
       t : AnalysisTrue m d (last_end (slots d))
-      t = analysis_done m d (last_end (slots d)) k.durable (powered_on_power m w.devices) (powered_on_forced m h w.devices g.kept) (last_ends m d k.durable) (last_inside m d)
+      t = analysis_done m d (last_end (slots d)) k.durable (powered_on_power m w.devices) (last_ends m d k.durable) (last_inside m d)
 
       f : Found
       f = t.found

@@ -124,7 +124,6 @@ module _ {C : Type 0} (m : Meaning C) (law : Lawful m) where
         committed = k'.book.committed;
         kept = k'.book.kept;
         old = old;
-        old_doubts = k'.book.old_doubts;
       };
     }
       where

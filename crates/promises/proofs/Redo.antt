@@ -294,7 +294,6 @@ module _ {C : Type 0} (m : Meaning C) where
   pub redo_done : (d : Devices) (f : Found) (res : Replay) → Durable m d → Analysed m d f → replayed m d f.dirty (stored_pages m d) ≡ Ok res → Redone m d (redone_with f res)
   redo_done d f res h a e = record {
     power = a.power;
-    all_forced = a.all_forced;
     jobs = a.jobs;
     many = ap (λ (r : Replay). length r.copies) one ∙ x.many;
     copies = λ p. ap (λ (r : Replay). copy_of r.copies p) one ∙ x.copies p;

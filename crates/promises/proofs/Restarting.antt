@@ -1,5 +1,5 @@
 -- What analysis and redo come to in a good state: they are accepted, and the next stage is good again.
-use Rattle.std.proofs.Common.{◌≡◌, ℕ, ◌≤◌, [], length, Ok, Err, Result, sym, refl, ◌∙◌, subst, arith}
+use Rattle.std.proofs.Common.{◌≡◌, ℕ, [], length, Ok, Err, Result, sym, refl, ◌∙◌, subst, arith}
 use Rattle.std.proofs.lemmas.Bool.{false≢true}
 use Rattle.format.specs.Changes.{Meaning}
 use Rattle.rules.specs.declared.refusal.Refusal.{Refusal}
@@ -8,11 +8,10 @@ use Rattle.rules.specs.Ledger.{Ledger}
 use Rattle.rules.specs.Plans.{Plan, powers_on, Performed, done, Does, refused, granted, began, powered_on}
 use Rattle.rules.specs.Reading.{last_end}
 use Rattle.rules.specs.Restart.{whole, found_in, analysed_plan, analysis_plan, redo_plan, redone_plan, replayed, Replay, stored_pages}
-use Rattle.rules.specs.State.{Devices, Found, Memory, out, analysed, redone, serving, World, slots, log_length}
+use Rattle.rules.specs.State.{Devices, Found, Memory, out, analysed, redone, serving, World, slots}
 use Rattle.rules.specs.Tables.{least_start}
 use Rattle.promises.proofs.Analysis.{AnalysisTrue, analysis_done, last_ends, last_inside}
 use Rattle.promises.proofs.Asking.{asked, answered, insisted, performing, readied}
-use Rattle.promises.proofs.Decoded.{length_powered_on}
 use Rattle.promises.proofs.Invariants.{Kept, Powered, Settled, Analysed, Redone, Good}
 use Rattle.promises.proofs.Redo.{none_ahead_true, ReplayedTrue, redo_replays, redone_with, redo_done}
 
@@ -38,9 +37,6 @@ module _ {C : Type 0} (m : Meaning C) where
   powered_now : (d : Devices) → Powered m (powered_on d)
   powered_now d = record { pages = refl; log = refl }
 
-  forced_now : (d : Devices) → d.log.forced ≤ log_length d → (powered_on d).log.forced ≡ log_length (powered_on d)
-  forced_now d le = sym (length_powered_on d le)
-
   pub analysis_comes : (h : Ledger C) (w v : World) (r : Result (ℕ × ℕ × ℕ) Refusal) → Good m h w → Kept m h (powered_on w.devices) → Does m (analysis_plan m w) w r v → Analyses w r v
   analysis_comes h w v r g k (refused e) = absurd (false≢true (sym e ∙ g.kept.durable.sizes))
   analysis_comes h w v r g k (granted e x) = found (found_in (whole m d) (last_end (slots d))) t.finds (powered_then x)
@@ -49,7 +45,7 @@ module _ {C : Type 0} (m : Meaning C) where
       d = powered_on w.devices
 
       t : AnalysisTrue m d (last_end (slots d))
-      t = analysis_done m d (last_end (slots d)) k.durable (powered_now w.devices) (forced_now w.devices g.kept.durable.forced) (last_ends m d k.durable) (last_inside m d)
+      t = analysis_done m d (last_end (slots d)) k.durable (powered_now w.devices) (last_ends m d k.durable) (last_inside m d)
 
       found : (o : Result Found Refusal) → o ≡ Ok t.found → Does m (analysed_plan o) (record { devices = d; memory = out }) r v → Analyses w r v
       found (Err why) e x = let z : ◌≡◌ {A = ℕ} 0 1 = cc in absurd (omega arith)

@@ -23,7 +23,7 @@ use Rattle.promises.proofs.Decoded.{at_above, whole_length, whole_powered_on}
 use Rattle.promises.proofs.Finishing.{Undoes, undo_next, undo_comes}
 use Rattle.promises.proofs.Legal.{whole_page, open_jobs}
 use Rattle.promises.proofs.Invariants.{Durable, Kept, Analysed, Redone, Stage, Good}
-use Rattle.promises.proofs.Powering.{powered_on_power, powered_on_forced, kept_powered_on, settles}
+use Rattle.promises.proofs.Powering.{powered_on_power, kept_powered_on, settles}
 use Rattle.promises.proofs.Redo.{redo_replays, redone_with, redo_done}
 use Rattle.promises.proofs.Restarting.{analysis_comes, redo_next}
 use Rattle.promises.proofs.Safety.{onto}
@@ -115,7 +115,7 @@ module _ {C : Type 0} (m : Meaning C) (law : Lawful m) where
       inside e b is = ⊎_elim (λ lt. let no_slot = at_above e (whole m d) lt in let z : ◌≡◌ {A = ℕ} 0 1 = cc in absurd (omega arith)) (λ le. le) (cases_lt (length (whole m d)) e)
 
       by : (e : ℕ) → EndsAt m d e → e ≤ length (whole m d) → Comes m d e
-      by e ends le = restart_comes m d e dur (analysis_done m d e dur (powered_on_power m w.devices) (powered_on_forced m h w.devices g.kept) ends le)
+      by e ends le = restart_comes m d e dur (analysis_done m d e dur (powered_on_power m w.devices) ends le)
 
       zeroth : Comes m d 0
       zeroth = by 0 (inl refl) (omega arith)

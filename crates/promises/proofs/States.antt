@@ -86,7 +86,6 @@ module _ {C : Type 0} (m : Meaning C) (h : Ledger C) where
     pub committed : (j : ℕ) → is_committed L j ≡ true → (is_in j h.kept || is_in j h.doubtful) ≡ true
     pub kept : (j : ℕ) → is_in j h.kept ≡ true → is_committed (up_to forced L) j ≡ true
     pub old : (e : Entry C) → In e h.entries → e.job ≤ forced
-    pub old_doubts : (j : ℕ) → is_in j h.doubtful ≡ true → j ≤ forced
 
   abbrev pub StateOf : Devices → Type 0
   StateOf d = State (size d) d.log.capacity d.log.forced (whole m d) (stored m d)
@@ -104,7 +103,6 @@ module _ {C : Type 0} (m : Meaning C) (h : Ledger C) where
     committed = k.book.committed;
     kept = k.book.kept;
     old = k.book.old;
-    old_doubts = k.book.old_doubts;
   }
 
   pub of_state : (d : Devices) → StateOf d → Kept m h d
@@ -118,7 +116,7 @@ module _ {C : Type 0} (m : Meaning C) (h : Ledger C) where
       ahead = s.ahead;
       truths = s.truths;
     };
-    book = record { entries = s.entries; committed = s.committed; kept = s.kept; old = s.old; old_doubts = s.old_doubts };
+    book = record { entries = s.entries; committed = s.committed; kept = s.kept; old = s.old };
   }
 
   -- the same of devices that agree in the parts
@@ -148,7 +146,6 @@ module _ {C : Type 0} (m : Meaning C) (h : Ledger C) where
       committed = s.committed;
       kept = λ j i. committed_older (up_to f L) (up_to g L) j (subst (λ (K : Log C). Older K (up_to g L)) (up_to_up_to g f L up) (older_up_to f (up_to g L))) (s.kept j i);
       old = λ e i. let a = s.old e i in omega arith;
-      old_doubts = λ j i. let a = s.old_doubts j i in omega arith;
     }
 
     -- a page is written
@@ -166,7 +163,6 @@ module _ {C : Type 0} (m : Meaning C) (h : Ledger C) where
       committed = s.committed;
       kept = s.kept;
       old = s.old;
-      old_doubts = s.old_doubts;
     }
 
     -- only the forced slots are left
@@ -184,7 +180,6 @@ module _ {C : Type 0} (m : Meaning C) (h : Ledger C) where
       committed = λ j c. s.committed j (committed_older (up_to f L) L j (older_up_to f L) c);
       kept = λ j i. rw (up_to_up_to f f L (omega arith)) (s.kept j i);
       old = s.old;
-      old_doubts = s.old_doubts;
     }
       where
         truth_left : (e b : ℕ) → at (up_to f L) e ≡ Some (Checkpoint (Complete b)) → (f < e) ⊎ (e ≤ f) → Truth (λ p. (page p).lrc) (up_to f L) e
@@ -257,5 +252,4 @@ module _ {C : Type 0} (m : Meaning C) (h : Ledger C) where
         committed = put_committed;
         kept = λ j i. rw (up_to_more f (Some s) L held) (st.kept j i);
         old = st.old;
-        old_doubts = st.old_doubts;
       }
