@@ -5,7 +5,7 @@ use Rattle.format.specs.Changes.{Meaning, Lawful}
 use Rattle.recovery_log.specs.Log.{Numbered, pending}
 use Rattle.rules.specs.declared.refusal.Refusal.{Refusal}
 use Rattle.rules.specs.declared.refusal.Refusal.TheVariants.{NotInService}
-use Rattle.promises.specs.AnyDevices.{Goes, made_over, called, remade, ReadsOn, InService, InOrder, AppendsFit, AnyDevices}
+use Rattle.promises.specs.AnyDevices.{ReachedFromAny, made_over, called, remade, ReadsOn, InService, InOrder, AppendsFit, AnyDevices}
 use Rattle.rules.specs.Plans.{Does}
 use Rattle.rules.specs.Reading.{at}
 use Rattle.rules.specs.Restart.{whole, analysis_plan, redo_plan, undo_plan}
@@ -58,7 +58,7 @@ module _ {C : Type 0} (m : Meaning C) (law : Lawful m) where
   after_call {w = w} undo r h x = kept m (Fine m) (AnyRefusal m) (Unit {0}) (λ d. tt) h.0 h.1 (undo_safe m law w.devices w.memory h.0 h.1) x
   after_call {w = w} (service c) r h x = kept m (Fine m) Calm ⊥ (λ d. tt) h.0 h.1 (service_safe w.devices w.memory h.0 h.1 c) x
 
-  pub holds : (w : World) → Goes m w → Holds w
+  pub holds : (w : World) → ReachedFromAny m w → Holds w
   holds w (made_over d sound) = (record { held = sound.log.held; room = sound.log.room }, tt)
   holds w (called {w = u} c r g x) = after_call c r (holds u g) x
   holds w (remade {w = u} true a b g) = let k = base_powered_on m (Fine m) Calm ⊥ u.devices (holds u g).0 in (record { held = k.held; room = k.room }, tt)

@@ -13,7 +13,7 @@ use Rattle.device.specs.PageStores.{PageModel, PageWritten}
 use Rattle.device.specs.LogStores.{LogModel, SlotAppended, LogForced}
 use Rattle.recovery_log.specs.Log.{Log}
 use Rattle.rules.specs.declared.refusal.Refusal.{Refusal}
-use Rattle.promises.specs.AnyDevices.{OperationsFit, PlanFits, Quiet}
+use Rattle.promises.specs.AnyDevices.{OperationsFit, PlanFits, AltersNothing}
 use Rattle.rules.specs.Numbers.{number_of}
 use Rattle.rules.specs.Plans.{Op, append, force, write, Plan, asks, insists, powers_on, performs, refusal_of_page, refusal_of_log, with_pages, with_log, powered_on, Did, Failed, Performed, done, next, Does, refused, granted, stopped, passed, began, performed}
 use Rattle.rules.specs.Reading.{known}
@@ -249,11 +249,11 @@ module _ {C : Type 0} (m : Meaning C) where
       kept {w = w} {v = v} b s h (performed x) = came_held w.devices v h (ran h.power b x h.fit)
 
     module _ (never : loud → ⊥) (calmly : (why : Refusal) → calm why → number_of why ≡ 15 → ⊥) where
-      asked : {A : Type 0} (w : World) (why because : Refusal) → calm why → ◌≡◌ {A = Result A Refusal} (Err why) (Err because) → Quiet m w w because
+      asked : {A : Type 0} (w : World) (why because : Refusal) → calm why → ◌≡◌ {A = Result A Refusal} (Err why) (Err because) → AltersNothing m w w because
       asked w why because c e = let same = same_fault why because e in record { nothing_done = inr refl; readable = calmly because (subst calm same c) }
 
       came_quiet : {A : Type 0} {ops : List (Op C)} {answer : Result A Refusal} {after : Memory} {r : Result A Refusal} (w v : World) (because : Refusal)
-          → Runs w.devices ops answer after → Came answer after ops w.devices r v → r ≡ Err because → Quiet m w v because
+          → Runs w.devices ops answer after → Came answer after ops w.devices r v → r ≡ Err because → AltersNothing m w v because
       came_quiet w v because h (finished e mem a) q = absurd (never (h.mild because (sym e ∙ q)))
       came_quiet w v because h (cut why e n mem b) q =
           let same = same_fault why because (sym e ∙ q) in
@@ -261,7 +261,7 @@ module _ {C : Type 0} (m : Meaning C) where
           record { nothing_done = inl k; readable = λ z. omega arith }
 
       pub told : {A : Type 0} {p : Plan C A} {w v : World} {r : Result A Refusal} (because : Refusal) → Base w.devices → Safe w p → Does m p w r v
-          → r ≡ Err because → Quiet m w v because
+          → r ≡ Err because → AltersNothing m w v because
       told because b h (refused {why = why} {w = w} e) q = asked w why because (h.0 e) q
       told because b h (granted e x) q = told because b (h.1 e) x q
       told because b h (stopped e) q = absurd (never (h.0 e))

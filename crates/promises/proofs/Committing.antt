@@ -26,7 +26,7 @@ use Rattle.promises.proofs.Opening.{Put, safe_put, did_put}
 use Rattle.promises.proofs.Operations.{performed_safe}
 use Rattle.promises.proofs.OwedLaws.{room_now, room_closed}
 use Rattle.promises.proofs.Safety.{SafeAppend, Dids, Ended, all_done, lost}
-use Rattle.promises.proofs.Serves.{job_open, jobs_distinct, lacks_is, ended_good, Goes, serves_on, entries_alike}
+use Rattle.promises.proofs.Serves.{job_open, jobs_distinct, lacks_is, ended_good, ReachedFromAny, serves_on, entries_alike}
 use Rattle.promises.proofs.TableLaws.{bare_without, held_without, held_without_less, freed, each_of, holds_of_held}
 
 -- The entries of fewer jobs
@@ -124,7 +124,7 @@ module _ {C : Type 0} (m : Meaning C) (law : Lawful m) where
             let b = (st.1.copies p).below in
             omega arith
 
-    goes_commit : held_complete m d s j ≡ true → (forced : ℕ) → d.log.forced ≤ forced → Goes m (Some (Job Commit j) ∷ whole m d) forced s (without_job j s.jobs)
+    goes_commit : held_complete m d s j ≡ true → (forced : ℕ) → d.log.forced ≤ forced → ReachedFromAny m (Some (Job Commit j) ∷ whole m d) forced s (without_job j s.jobs)
     goes_commit all forced up = let sv = st.1 in let left = still_open j (whole m d) in record {
       table = bare_without j s.jobs ∙ ap (without_job j) sv.jobs;
       one = λ i l p a b. sv.one i l p (held_without_less j i p s.jobs a) (held_without_less j l p s.jobs b);

@@ -140,6 +140,7 @@ module _ {C : Type 0} (m : Meaning C) where
   -- an append puts its slot, whether it says so or loses power
   pub record SlotPut (d : Devices) (b : List ℕ) (r : Result (Unit {0}) LogFault) (l : LogModel) : Type 0 where
     pub grown : whole m (with_log d l) ≡ result_ok (read_slot m (size d) (suc (log_length d)) b) ∷ whole m d
+    pub slots_are : l.slots ≡ d.log.slots ++ b ∷ []
     pub length_is : length l.slots ≡ suc (log_length d)
     pub raised : d.log.forced ≤ l.forced
     pub held : l.forced ≤ suc (log_length d)
@@ -172,6 +173,7 @@ module _ {C : Type 0} (m : Meaning C) where
         → SlotPut d b r (state d.log (d.log.slots ++ b ∷ []) f t)
     puts f t e c lo hi answer = record {
       grown = whole_put;
+      slots_are = refl;
       length_is = rw length-append (omega arith);
       raised = lo;
       held = hi;

@@ -1,58 +1,58 @@
 mod Aborting
 mod Analysis
-mod AnyDevices
+pub mod AnyDevices
 mod AnyDevicesAbort
 mod AnyDevicesAnalysis
-mod AnyDevicesBack
+pub mod AnyDevicesBack
 mod AnyDevicesCheckpoint
 mod AnyDevicesPlans
 mod AnyDevicesRedo
-mod AnyDevicesScans
+pub mod AnyDevicesScans
 mod AnyDevicesService
-mod AnyDevicesSlots
+pub mod AnyDevicesSlots
 mod AnyDevicesStages
 mod AnyDevicesTables
 mod AnyDevicesUndo
 mod Appends
-mod Asking
+pub mod Asking
 mod Beginning
 mod Checkpointing
 mod Committing
 mod Cuts
 mod Cutting
 mod DataLaw
-mod Decoded
+pub mod Decoded
 mod Fetching
 mod Finishing
 mod Fitting
 mod Forever
 mod Images
-mod Invariants
+pub mod Invariants
 mod JobLaws
-mod JobTables
+pub mod JobTables
 mod Keeping
 mod Legal
 mod Looking
-mod Membership
+pub mod Membership
 pub mod Once
 mod Opening
 mod Operations
-mod OwedLaws
+pub mod OwedLaws
 mod PageCounts
 mod Piles
 mod Powering
 mod Progress
-mod Promised
+pub mod Promised
 mod Recording
 mod Redo
 mod Restarting
 mod Restarts
-mod Runs
+pub mod Runs
 mod Safety
 mod Serves
 mod Shipping
 mod States
-mod TableLaws
+pub mod TableLaws
 mod TakingBack
 mod Truths
 mod Undoing

@@ -25,7 +25,7 @@ use Rattle.promises.proofs.Membership.{In}
 use Rattle.promises.proofs.Operations.{Forced, did_append, did_force, performed_safe}
 use Rattle.promises.proofs.OwedLaws.{room_open}
 use Rattle.promises.proofs.Safety.{SafeAppend, SafeOps, Dids, none, next, Grown}
-use Rattle.promises.proofs.Serves.{room_read, ended_good, Goes, serves_on, entries_alike}
+use Rattle.promises.proofs.Serves.{room_read, ended_good, ReachedFromAny, serves_on, entries_alike}
 use Rattle.promises.proofs.TableLaws.{bare_length, bare_entered, held_entered, is_held_entered}
 
 -- a job's event that is no commit leaves the committed jobs
@@ -79,7 +79,7 @@ module _ {C : Type 0} (m : Meaning C) (law : Lawful m) where
       honest = tt;
     }
 
-    goes_open : Goes m (Some (Job Open (next_slot d)) ∷ whole m d) (suc (length (whole m d))) s (entered (new_job (next_slot d) 0) s.jobs)
+    goes_open : ReachedFromAny m (Some (Job Open (next_slot d)) ∷ whole m d) (suc (length (whole m d))) s (entered (new_job (next_slot d) 0) s.jobs)
     goes_open = let n = next_slot d in let sv = st.1 in record {
       table = bare_entered n 0 s.jobs ∙ ap (entered (new_job n 0)) sv.jobs;
       one = λ i j p a b. sv.one i j p (sym (held_entered n 0 i p s.jobs) ∙ a) (sym (held_entered n 0 j p s.jobs) ∙ b);
@@ -106,7 +106,7 @@ module _ {C : Type 0} (m : Meaning C) (law : Lawful m) where
       stage = (
         record { none = st.0.none; exact = λ j. st.0.exact j ∙ (sym (committed_same Open n (whole m d) j refl) ∙ ap (λ L. is_committed L j) (sym p.grown.log)) },
         serves_on m d e L s _ st.1 k'.durable p.grown.log (more same) p.grown.pages (p.grown.power st.1.power.log)
-            (subst (λ f. Goes m L f s (entered (new_job n 0) s.jobs)) (sym p.all) goes_open),
+            (subst (λ f. ReachedFromAny m L f s (entered (new_job n 0) s.jobs)) (sym p.all) goes_open),
         λ q. rw p.grown.log (entries_alike (live L) (live (whole m d)) q h.entries (λ x i. alike x (k.book.old x i)) ∙ st.2 q),
       );
     }

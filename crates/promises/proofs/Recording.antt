@@ -23,7 +23,7 @@ use Rattle.promises.proofs.Operations.{did_append, performed_safe}
 use Rattle.promises.proofs.OwedLaws.{room_put}
 use Rattle.promises.proofs.Piles.{pile_page, pile_pending}
 use Rattle.promises.proofs.Safety.{SafeAppend, Dids, none, next, Grown}
-use Rattle.promises.proofs.Serves.{job_open, job_next, last_is_count, room_read, ended_good, Goes, serves_on}
+use Rattle.promises.proofs.Serves.{job_open, job_next, last_is_count, room_read, ended_good, ReachedFromAny, serves_on}
 use Rattle.promises.proofs.TableLaws.{bare_with_next, held_with_next, is_held_with_next, held_is_held}
 
 pub none_from : {C : Type 0} (j : ℕ) (xs : List (Numbered C)) → ((x : Numbered C) → In x xs → x.record'.job ≡ j → ⊥) → none_by j xs ≡ true
@@ -70,7 +70,7 @@ module _ {C : Type 0} (m : Meaning C) (law : Lawful m) where
       honest = tt;
     }
 
-    goes_record : (forced : ℕ) → d.log.forced ≤ forced → Goes m (Some (Record (change_for m j p lrc s c)) ∷ whole m d) forced s (with_next j (next_slot d) s.jobs)
+    goes_record : (forced : ℕ) → d.log.forced ≤ forced → ReachedFromAny m (Some (Record (change_for m j p lrc s c)) ∷ whole m d) forced s (with_next j (next_slot d) s.jobs)
     goes_record forced up = let n = next_slot d in let sv = st.1 in record {
       table = bare_with_next j n s.jobs ∙ (ap (with_next j n) sv.jobs ∙ ap (λ i. with_next j i (open_jobs (whole m d))) own);
       one = λ i l q x y. sv.one i l q (sym (held_with_next j n i q s.jobs) ∙ x) (sym (held_with_next j n l q s.jobs) ∙ y);

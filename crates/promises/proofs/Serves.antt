@@ -183,7 +183,7 @@ module _ {C : Type 0} (m : Meaning C) where
       (record { kept = k; stage = subst (Stage m h w.devices) (sym f) tt }))
 
   -- what is left to show of a server that serves on with the same copies
-  pub record Goes (L : Log C) (forced : ℕ) (s : Working) (jobs : Jobs) : Type 0 where
+  pub record ReachedFromAny (L : Log C) (forced : ℕ) (s : Working) (jobs : Jobs) : Type 0 where
     pub table : bare jobs ≡ open_jobs L
     pub one : (j k p : ℕ) → held_by j p jobs ≡ true → held_by k p jobs ≡ true → j ≡ k
     pub changed : (j : ℕ) (x : Numbered C) → is_open L j ≡ true → In x (pending L j) → held_by j x.record'.page jobs ≡ true
@@ -192,7 +192,7 @@ module _ {C : Type 0} (m : Meaning C) where
     pub opened : (j : ℕ) → is_open L j ≡ true → j ≤ forced
 
   pub serves_on : (d e : Devices) (L : Log C) (s : Working) (jobs : Jobs) → Serving m d s → Durable m e → whole m e ≡ L → Older (whole m d) L → e.pages ≡ d.pages
-      → e.log.powered ≡ true → Goes L e.log.forced s jobs → Serving m e (record { copies = s.copies; jobs = jobs; first = s.first })
+      → e.log.powered ≡ true → ReachedFromAny L e.log.forced s jobs → Serving m e (record { copies = s.copies; jobs = jobs; first = s.first })
   serves_on d e L s jobs sv dur is older pages power g = record {
     power = record { pages = ap (λ (x : PageModel). x.powered) pages ∙ sv.power.pages; log = power };
     jobs = rw is g.table;

@@ -1,5 +1,5 @@
--- What holds over devices with any bytes: in what order a server that is not out of service finds them and leaves them, what a refused call leaves,
--- and that every slot it appends can be read back. Assumes nothing.
+-- What holds over devices with any bytes: what a server that is not out of service may rely on, what a refused call leaves, and that every slot it
+-- appends can be read back. Assumes nothing.
 use Rattle.std.specs.Prelude.{◌≡◌, ℕ, suc, ◌<◌, ◌≤◌, Bool, true, ◌⊎◌, List, [], ◌∷◌, is_some, Ok, Err, Result}
 use Rattle.format.specs.Changes.{Meaning}
 use Rattle.format.specs.Slots.{slot_bytes, read_slot}
@@ -22,10 +22,10 @@ pub record SoundDevices (d : Devices) : Type 0 where
 
 module _ {C : Type 0} (m : Meaning C) where
   -- what is reached from a server just made over any devices, by any calls with any outcomes and by making a server again
-  pub data Goes : World → Type 0 where
-    made_over : (d : Devices) → SoundDevices d → Goes (record { devices = d; memory = out })
-    called : {w v : World} (c : Call) (r : Result (Answer c) Refusal) → Goes w → Does m (plan_of m c w) w r v → Goes v
-    remade : {w : World} (cut a b : Bool) → Goes w → Goes (record { devices = left_over m cut a b w.devices; memory = out })
+  pub data ReachedFromAny : World → Type 0 where
+    made_over : (d : Devices) → SoundDevices d → ReachedFromAny (record { devices = d; memory = out })
+    called : {w v : World} (c : Call) (r : Result (Answer c) Refusal) → ReachedFromAny w → Does m (plan_of m c w) w r v → ReachedFromAny v
+    remade : {w : World} (cut a b : Bool) → ReachedFromAny w → ReachedFromAny (record { devices = left_over m cut a b w.devices; memory = out })
 
   -- Order, by the server's stage
 
@@ -55,13 +55,13 @@ module _ {C : Type 0} (m : Meaning C) where
   InOrder d (redone s) = ReadsOn d s.first × LrcsInRange s
   InOrder d (serving s) = InService d s
 
-  -- A refused call in service leaves everything as it was, unless power was lost in it. It is not refused for a slot that does not fit. (A call that met a full log would not leave everything as it was.)
-  pub record Quiet (w v : World) (why : Refusal) : Type 0 where
+  -- A refused call in service leaves everything as it was, unless power was lost in it. It is not refused for a slot that does not fit. (So none met a full log: that would have taken the server out.)
+  pub record AltersNothing (w v : World) (why : Refusal) : Type 0 where
     pub nothing_done : (number_of why ≡ 17) ⊎ (v ≡ w)
     pub readable : number_of why ≡ 15 → ⊥
 
   abbrev pub RefusedQuietly : World → Type 0
-  RefusedQuietly w = (c : ServiceCall) (v : World) (r : Result (Answers c) Refusal) (why : Refusal) → Does m (service_plan m c w) w r v → r ≡ Err why → Quiet w v why
+  RefusedQuietly w = (c : ServiceCall) (v : World) (r : Result (Answers c) Refusal) (why : Refusal) → Does m (service_plan m c w) w r v → r ≡ Err why → AltersNothing w v why
 
   -- After n slots each slot among the operations finds the log not full, and its bytes read back as it at the number that it gets; each page that is
   -- written is in the store
@@ -89,4 +89,4 @@ module _ {C : Type 0} (m : Meaning C) where
 
   -- From any devices, after any calls with any outcomes and any making of servers anew
   abbrev pub AnyDevices : Type 0
-  AnyDevices = (w : World) → Goes w → Orderly w
+  AnyDevices = (w : World) → ReachedFromAny w → Orderly w

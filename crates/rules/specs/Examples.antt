@@ -8,6 +8,7 @@ use Rattle.format.specs.Bytes.{number_at, spelled}
 use Rattle.format.specs.Changes.{Meaning}
 use Rattle.changes.specs.Patches.{patch_meaning}
 use Rattle.rules.specs.declared.refusal.Device.{Device}
+use Rattle.rules.specs.declared.refusal.Device.TheVariants as device
 use Rattle.rules.specs.declared.refusal.Refusal.{Refusal}
 use Rattle.rules.specs.Ledger.{Ledger, empty}
 use Rattle.rules.specs.Numbers.{number_of, place_of}
@@ -31,7 +32,7 @@ pub record Point (C : Type 0) : Type 0 where
   pub world : World
   pub answers : List (List ℕ)
 
--- an answer as numbers: 0 and what was answered, or the number of the refusal and the page or slot where power was lost
+-- an answer as numbers: 0 and what was answered, or the number of the refusal, with the device (0 the page store, 1 the log) and the page or slot where power was lost
 abbrev pub numbers_of : (c : ServiceCall) → Answers c → List ℕ
 numbers_of opens a = a ∷ []
 numbers_of (fetches j p n) a = a
@@ -49,9 +50,13 @@ accepted_as redo a = a.0 ∷ a.1 ∷ []
 accepted_as undo a = a.0 ∷ a.1 ∷ []
 accepted_as (service c) a = numbers_of c a
 
+abbrev pub device_number : Device → ℕ
+device_number device.Pages = 0
+device_number device.Log = 1
+
 abbrev pub place_numbers : Option (Device × ℕ) → List ℕ
 place_numbers None = []
-place_numbers (Some x) = x.1 ∷ []
+place_numbers (Some x) = device_number x.0 ∷ x.1 ∷ []
 
 abbrev pub answer_of : (c : Call) → Result (Answer c) Refusal → List ℕ
 answer_of c (Ok a) = 0 ∷ accepted_as c a
@@ -200,8 +205,8 @@ yes_with ns = 0 ∷ ns
 abbrev pub refused_by : ℕ → List ℕ
 refused_by n = n ∷ []
 
-abbrev pub power_lost_at : ℕ → List ℕ
-power_lost_at place = 17 ∷ place ∷ []
+abbrev pub log_lost_at : ℕ → List ℕ
+log_lost_at place = 17 ∷ 1 ∷ place ∷ []
 
 -- the three passes answer
 abbrev pub passes : ℕ → ℕ → ℕ → ℕ → ℕ → ℕ → ℕ → List (List ℕ)
@@ -224,7 +229,7 @@ pub record ComeOut : Type 0 where
   pub unwritten : drop 12 loser_not_written.answers ≡ passes 1 1 1 2 1 0 1
   pub unwritten_copy : copy_in loser_not_written 0 ≡ (1, 17)
   pub unwritten_log : log_kinds loser_not_written ≡ 1 ∷ 2 ∷ 4 ∷ 1 ∷ 5 ∷ []
-  pub cut : drop 11 power_lost_in_undo.answers ≡ power_lost_at 6 ∷ passes 1 1 1 2 1 1 1
+  pub cut : drop 11 power_lost_in_undo.answers ≡ log_lost_at 6 ∷ passes 1 1 1 2 1 1 1
   pub cut_log : log_kinds power_lost_in_undo ≡ 1 ∷ 2 ∷ 2 ∷ 3 ∷ 3 ∷ 5 ∷ []
   pub unshipped : drop 6 checkpoint_unshipped.answers ≡ yes_with (6 ∷ []) ∷ yes_with [] ∷ yes_with (7 ∷ []) ∷ passes 3 0 1 2 1 0 0
 

@@ -4,6 +4,7 @@
 mod refusal;
 mod table;
 mod theorems;
+mod words;
 
 pub use refusal::{Device, Refusal};
 pub use table::{DirtyPage, JobEntry};

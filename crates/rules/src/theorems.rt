@@ -8,7 +8,7 @@ pub fn worked_runs()
     ensures { Worked }
 {}
 
-// For every call, every operation of it at which power may be lost and everything that a device may leave then, the definitions
+// For every call, every operation of it at which power may be lost and every choice that the runner has of what is left then, the definitions
 // have that outcome: no promise is cheap for want of runs.
 pub fn every_outcome_is_there<K: Change>()
     ensures { Possible K.Change.meaning }

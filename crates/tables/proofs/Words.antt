@@ -1,13 +1,15 @@
 -- The words of the tables in the words of the library.
-use Rattle.std.proofs.Common.{◌≡◌, ℕ, ◌+◌, min, Bool, true, false, cond, not, ◌&&◌, ◌||◌, eqb, ltb, List, [], ◌∷◌, map, refl, ap, ◌∙◌, Some, ◌<◌, ◌++◌, length, take, drop, get_or, set, ◌≤◌, None, arith}
+use Rattle.std.proofs.Common.{◌≡◌, ℕ, ◌+◌, min, Bool, true, false, cond, not, ◌&&◌, ◌||◌, eqb, ltb, List, [], ◌∷◌, map, refl, ap, ◌∙◌, Some, ◌<◌, ◌++◌, length, take, drop, reverse, get_or, set, ◌≤◌, None, arith}
 use Rattle.std.specs.List.{find, filter, list_any, position_or_len, position, insert, reduce, fold}
 use Rattle.std.specs.Option.{unwrap_or}
 use Rattle.std.specs.Bool.{then_some}
 use native.Mathlib.Numerals.{one-add}
-use Rattle.std.proofs.lemmas.List.Sums.{prefix_len-le-length}
+use Rattle.std.proofs.lemmas.List.{reverse-append}
+use Rattle.std.proofs.lemmas.List.Sums.{prefix_len-le-length, fold-append}
 use Rattle.std.proofs.lemmas.Bool.{lt-ltb}
 use Rattle.std.proofs.lemmas.Bool.Decides.{nat_tests}
 use Rattle.rules.specs.declared.table.JobEntry.{JobEntry}
+use Rattle.rules.specs.Restart.{latest_of, latest}
 use Rattle.rules.specs.Tables.{Jobs, Dirty, entered, find_job, holds_page, held_by, held_by_another, is_held, with_next, with_hold, without_job, find_page, least_from, least_start}
 use Rattle.std.proofs.lemmas.List.Edits.{map_over_more}
 use Rattle.tables.specs.Entry.{of_job}
@@ -44,6 +46,10 @@ least_start_is (x ∷ xs) = ap (λ b. then_some b (least_start (x ∷ xs))) (lt-
     from : (n : ℕ) (xs : Dirty) → least_from n xs ≡ fold min n (map (λ x. x.start) xs)
     from n [] = refl
     from n (x ∷ xs) = from (min n x.start) xs
+
+pub latest_is : (xs : Jobs) → fold (λ best x. Some (latest_of x best)) None (reverse xs) ≡ latest xs
+latest_is [] = refl
+latest_is (x ∷ xs) = rw (reverse-append (x ∷ []) xs, fold-append) (ap (λ best. Some (latest_of x best)) (latest_is xs))
 
 -- entries that leave, and the place of one that enters
 pub without_job_is : (j : ℕ) (xs : Jobs) → without_job j xs ≡ filter (λ x. not (eqb x.job j)) xs

@@ -14,11 +14,11 @@ pub struct DirtyTable {
 // Callers see the entries.
 impl Model for DirtyTable {
     ghost use Rattle.rules.specs.Tables.{Dirty};
-    ghost use Rattle.tables.specs.Places.{HasPlaces};
+    ghost use Rattle.tables.specs.Places.{HasPlaces, PagesOnce};
 
     ghost Value = { Dirty };
 
     ghost view = { λ t. t.list.items };
 
-    ghost invariant = { λ t. HasPlaces 64 t.list };
+    ghost invariant = { λ t. HasPlaces 64 t.list × PagesOnce t.list.items };
 }

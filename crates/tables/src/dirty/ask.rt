@@ -16,6 +16,13 @@ impl DirtyTable {
         self.list.len()
     }
 
+    // The entries, in the order in which they were entered.
+    pub fn listed(&self) -> &[DirtyPage]
+        ensures { result.now ≡ self.now }
+    {
+        self.list.as_slice()
+    }
+
     pub fn find_page(&self, page: u8) -> Option<&DirtyPage>
         ensures { option_map (λ x. x.now) result ≡ find_page page self.now }
     {

@@ -1,6 +1,6 @@
 // Making the table of dirty pages, and changing it.
-ghost use Rattle.std.specs.Prelude.{◌≡◌, ◌<◌, false, [], length, is_some, IfOk};
-ghost use Rattle.rules.specs.Tables.{find_page, with_dirty};
+ghost use Rattle.std.specs.Prelude.{◌≡◌, ◌<◌, [], IfOk};
+ghost use Rattle.rules.specs.Tables.{with_dirty};
 
 use super::DirtyTable;
 use rules::DirtyPage;
@@ -21,9 +21,9 @@ impl DirtyTable {
         self.list.clear();
     }
 
-    // A page that is in the table keeps its start.
+    // A page that is in the table keeps its start. Of 64 pages each has a place.
     pub fn enter(&mut self, page: u8, start: u32)
-        requires { is_some (find_page page self.old) ≡ false → length self.old < 64 }
+        requires { page < 64 }
         ensures { self.new ≡ with_dirty page start self.old }
     {
         if self.find_page(page).is_none() {

@@ -1,6 +1,7 @@
 // Questions to the job table.
-ghost use Rattle.std.specs.Prelude.{◌≡◌, ◌≤◌, length};
+ghost use Rattle.std.specs.Prelude.{◌≡◌, ◌≤◌, length, take};
 ghost use Rattle.std.specs.Option.{option_map};
+ghost use Rattle.rules.specs.Restart.{latest_of, latest};
 ghost use Rattle.rules.specs.Tables.{find_job, is_job, holds_page, held_by, held_by_another, is_held};
 
 use super::JobTable;
@@ -20,6 +21,32 @@ impl JobTable {
         ensures few { length result.now ≤ 8 }
     {
         self.entries.list.as_slice()
+    }
+
+    // The entries in an array of their own, and how many they are.
+    pub fn copied(&self) -> ([JobEntry; 8], usize)
+        ensures value { take result.1 result.0 ≡ self.now }
+        ensures few { result.1 ≤ 8 }
+    {
+        let entries = self.listed();
+        let count = entries.len();
+        let mut copies = [JobEntry {
+            job: 0,
+            next: 0,
+            holds: [false; 64],
+        }; 8];
+        copies[..count].copy_from_slice(entries);
+        (copies, count)
+    }
+
+    // The entry with the largest next, among equals that of the lowest job.
+    pub fn latest(&self) -> Option<JobEntry>
+        ensures { result ≡ latest self.now }
+    {
+        self.listed()
+            .iter()
+            .rev()
+            .fold(None, |best, entry| Some(later_of(*entry, best)))
     }
 
     pub fn is_job(&self, job: u32) -> bool
@@ -57,10 +84,20 @@ impl JobTable {
         self.listed().iter().any(|entry| holds(entry, page))
     }
 
-    fn find(&self, job: u32) -> Option<&JobEntry>
+    pub fn find(&self, job: u32) -> Option<&JobEntry>
         ensures { option_map (λ x. x.now) result ≡ find_job job self.now }
     {
         self.listed().iter().find(|entry| entry.job == job)
+    }
+}
+
+// The entry, unless another one, of a higher job, has a larger next.
+fn later_of(entry: JobEntry, other: Option<JobEntry>) -> JobEntry
+    ensures { result ≡ latest_of entry other }
+{
+    match other {
+        Some(other) if entry.next < other.next => other,
+        _ => entry,
     }
 }
 
