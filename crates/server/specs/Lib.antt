@@ -1,0 +1,14 @@
+pub mod Answered
+pub mod Promised
+pub use Rattle.device.specs.PageStores
+pub use Rattle.device.specs.LogStores
+pub use Rattle.rules.specs.Ledger
+pub use Rattle.rules.specs.Numbers
+pub use Rattle.rules.specs.Plans
+pub use Rattle.rules.specs.Restart
+pub use Rattle.rules.specs.Runs
+pub use Rattle.rules.specs.State
+pub use Rattle.promises.specs.AnyDevices
+pub use Rattle.promises.specs.Compensations
+pub use Rattle.promises.specs.Promises
+pub use Rattle.calls.specs.Memories
