@@ -1,5 +1,5 @@
 -- The laws of a kind of change, from what is special to the kind.
-use Rattle.std.specs.Prelude.{◌≡◌, ℕ, ◌+◌, ◌≤◌, Bool, true, false, cond, List, take, drop, Some, None, Option, ◌≢◌, refl}
+use Rattle.std.specs.Prelude.{◌≡◌, ℕ, ◌+◌, ◌≤◌, Bool, true, false, cond, List, take, drop, is_some, Some, None, Option, ◌≢◌, refl}
 use Rattle.std.proofs.Common.{ap, arith}
 use Rattle.std.proofs.Math.Bool.{Bool-set}
 use Rattle.std.specs.Str.{bytes_eq}
@@ -18,6 +18,10 @@ checked_is false make e = let z : ◌≡◌ {A = ℕ} 0 1 = cc in absurd (omega 
 pub checked_made : {C : Type 0} (t : Bool) (make : t ≡ true → C) (c : C) → checked t make ≡ Some c → (e : t ≡ true) × (make e ≡ c)
 checked_made true make c q = (refl, cc)
 checked_made false make c q = let z : ◌≡◌ {A = ℕ} 0 1 = cc in absurd (omega arith)
+
+pub checked_some : {C : Type 0} (t : Bool) (make : t ≡ true → C) → is_some (checked t make) ≡ t
+checked_some true make = refl
+checked_some false make = refl
 
 module _ {C : Type 0} (bytes : C → List ℕ) (b : List ℕ) where
   pub own_form : (o : Option C) (c : C) → o ≡ Some c → bytes c ≡ b → only_form bytes b o ≡ Some c

@@ -1,9 +1,9 @@
 -- Patches keep the laws of a kind of change: exclusive-or with the same bytes twice changes nothing.
-use Rattle.std.specs.Prelude.{◌≡◌, ℕ, zero, suc, ◌+◌, ◌-◌, ◌≤◌, true, ◌&&◌, List, [], ◌∷◌, ◌++◌, length, take, drop, replicate, Some, ◌==◌, bit_xor, nat_le, refl}
+use Rattle.std.specs.Prelude.{◌≡◌, ℕ, zero, suc, ◌+◌, ◌-◌, ◌<◌, ◌≤◌, true, ◌&&◌, List, [], ◌∷◌, ◌++◌, length, take, drop, replicate, Some, ◌==◌, bit_xor, nat_le, slice_index, slice_set, refl}
 use Rattle.std.proofs.Common.{sym, ap, ◌∙◌, arith, lit<, length-append}
 use Rattle.std.specs.Int.Bits.{xor_self, xor_assoc, xor_zero_r}
 use Rattle.std.proofs.lemmas.Nat.{xor_lt}
-use Rattle.std.proofs.lemmas.List.{take_at, drop_at, drop-replicate, length-replicate}
+use Rattle.std.proofs.lemmas.List.{append_assoc, take_at, drop_at, drop_all, drop_more, drop-replicate, drop-set-lt, take-append-drop, take_more_set, length-replicate}
 use Rattle.std.proofs.lemmas.Bool.{and_parts, and_from, leb-true, le-leb, eqb-true, eq-eqb}
 use Rattle.changes.specs.declared.patch.Patch.{Patch}
 use Rattle.changes.specs.PatchForm.{patch_range, patch_ok}
@@ -58,6 +58,18 @@ pub xored_twice : (ms xs : List ℕ) → xored ms (xored ms xs) ≡ xs
 xored_twice [] xs = refl
 xored_twice (m ∷ ms) [] = refl
 xored_twice (m ∷ ms) (x ∷ xs) = let h = xor_twice x m in let k = xored_twice ms xs in cc
+
+-- the row with one more number exclusive-ored in place
+pub xored_step : (ms xs : List ℕ) (i : ℕ) → i < length ms → i < length xs
+    → let y = bit_xor (slice_index xs i) (slice_index ms i) in
+    take (i + 1) (slice_set xs i y) ++ xored (drop (i + 1) ms) (drop (i + 1) (slice_set xs i y)) ≡ take i xs ++ xored (drop i ms) (drop i xs)
+xored_step ms xs i h k =
+    let y = bit_xor (slice_index xs i) (slice_index ms i) in
+    let j : i < i + 1 = omega arith in
+    rw (take_more_set xs i y k, drop-set-lt (i + 1) xs i y j, drop_more ms i 0 h, drop_more xs i 0 k, append_assoc)
+
+pub xored_end : (ms xs : List ℕ) (i : ℕ) → length ms ≤ i → length xs ≤ i → take i xs ++ xored (drop i ms) (drop i xs) ≡ xs
+xored_end ms xs i h k = rw (drop_all i ms h, take-append-drop i xs)
 
 module _ (p : Patch) where
   pub patch_fits : Fits p.offset p.length p.mask

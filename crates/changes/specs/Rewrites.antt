@@ -1,6 +1,7 @@
 -- A part of a row rewritten in place: the row stays bytes, and rewriting the part back gives the former row.
-use Rattle.std.specs.Prelude.{◌≡◌, ℕ, ◌+◌, ◌≤◌, List, ◌++◌, length, take, drop}
+use Rattle.std.specs.Prelude.{◌≡◌, ℕ, ◌+◌, ◌-◌, ◌≤◌, List, ◌++◌, length, take, drop}
 use Rattle.std.proofs.Common.{ap, ◌∙◌, arith, length-append, length-take, length-drop}
+use borrow.Rule.Slice.PartMut.{put_mid}
 use Rattle.std.proofs.lemmas.List.{take_at, drop_at, take-append-drop, take-append-le, take-take, length-take-le}
 use Rattle.format.specs.Bytes.{Bytes, rewritten}
 use Rattle.format.proofs.Rows.{small_append, small_take, small_drop}
@@ -21,6 +22,10 @@ module _ (at n : ℕ) (f : List ℕ → List ℕ) (xs : List ℕ) where
       let whole = take-append-drop n (drop at xs) in
       let all = take-append-drop at xs in
       cc
+
+  -- what stands after a part of a row was written over
+  pub written_is : (ys : List ℕ) → ys ≡ f (take n (drop at xs)) → put_mid at (at + n - at) xs ys ≡ rewritten at n f xs
+  written_is ys e = let z : at + n - at ≡ n = omega arith in rw (z, e)
 
   -- what stands before the part stays
   pub rewritten_front : (m : ℕ) → m ≤ at → at ≤ length xs → take m (rewritten at n f xs) ≡ take m xs

@@ -43,26 +43,44 @@ numbered_kind n k e = sym (eqb-true n (kind_number k) (passes (λ j. eqb n (kind
 module _ {C : Type 0} (m : Meaning C) where
   -- Fields of a slot
 
-  -- they are of its kind, zero where the kind has none, and give the slot
-  pub record Told (s : Slot C) : Type 0 where
+  -- they are of its kind, and zero where the kind has none
+  pub record Rowed (s : Slot C) : Type 0 where
     pub kind : (slot_fields m s).kind ≡ kind_of s
-    pub long : length (slot_fields m s).change ≡ 40
     pub clean : unused_zero (uses_of (slot_fields m s).kind) (slot_fields m s) ≡ true
+
+  pub rowed : (s : Slot C) → Rowed s
+  rowed (Record r) = go r.action
+    where
+      go : (a : Action) → Rowed (Record (record { action = a; page = r.page; job = r.job; lrc = r.lrc; link = r.link; change = r.change }))
+      go Put = record { kind = refl; clean = refl }
+      go TakeBack = record { kind = refl; clean = refl }
+  rowed (Job Open j) = record { kind = refl; clean = refl }
+  rowed (Job Commit j) = record { kind = refl; clean = refl }
+  rowed (Job End j) = record { kind = refl; clean = refl }
+  rowed (Checkpoint Begin) = record { kind = refl; clean = refl }
+  rowed (Checkpoint (DirtyPage p s)) = record { kind = refl; clean = refl }
+  rowed (Checkpoint (OpenJob j n)) = record { kind = refl; clean = refl }
+  rowed (Checkpoint (Complete b)) = record { kind = refl; clean = refl }
+
+  -- under a lawful kind of change they also give the slot
+  pub record Told (s : Slot C) : Type 0 where
+    pub row : Rowed s
+    pub long : length (slot_fields m s).change ≡ 40
     pub gives : slot_of m (slot_fields m s) ≡ Some s
 
   pub told : Lawful m → (s : Slot C) → Told s
   told law (Record r) = go r.action
     where
       go : (a : Action) → Told (Record (record { action = a; page = r.page; job = r.job; lrc = r.lrc; link = r.link; change = r.change }))
-      go Put = record { kind = refl; long = (law.bytes_fit r.change).size; clean = refl; gives = rw (law.bytes_read r.change) }
-      go TakeBack = record { kind = refl; long = (law.bytes_fit r.change).size; clean = refl; gives = rw (law.bytes_read r.change) }
-  told law (Job Open j) = record { kind = refl; long = refl; clean = refl; gives = refl }
-  told law (Job Commit j) = record { kind = refl; long = refl; clean = refl; gives = refl }
-  told law (Job End j) = record { kind = refl; long = refl; clean = refl; gives = refl }
-  told law (Checkpoint Begin) = record { kind = refl; long = refl; clean = refl; gives = refl }
-  told law (Checkpoint (DirtyPage p s)) = record { kind = refl; long = refl; clean = refl; gives = refl }
-  told law (Checkpoint (OpenJob j n)) = record { kind = refl; long = refl; clean = refl; gives = refl }
-  told law (Checkpoint (Complete b)) = record { kind = refl; long = refl; clean = refl; gives = refl }
+      go Put = record { row = rowed _; long = (law.bytes_fit r.change).size; gives = rw (law.bytes_read r.change) }
+      go TakeBack = record { row = rowed _; long = (law.bytes_fit r.change).size; gives = rw (law.bytes_read r.change) }
+  told law (Job Open j) = record { row = rowed _; long = refl; gives = refl }
+  told law (Job Commit j) = record { row = rowed _; long = refl; gives = refl }
+  told law (Job End j) = record { row = rowed _; long = refl; gives = refl }
+  told law (Checkpoint Begin) = record { row = rowed _; long = refl; gives = refl }
+  told law (Checkpoint (DirtyPage p s)) = record { row = rowed _; long = refl; gives = refl }
+  told law (Checkpoint (OpenJob j n)) = record { row = rowed _; long = refl; gives = refl }
+  told law (Checkpoint (Complete b)) = record { row = rowed _; long = refl; gives = refl }
 
   -- Fields that give a slot
 

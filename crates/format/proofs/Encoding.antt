@@ -1,19 +1,19 @@
 -- Every slot has one encoding: what is written reads back, and what reads is what is written. Assumes nothing.
 use Rattle.std.proofs.Common.{◌≡◌, ℕ, Bool, true, false, cond, not, ◌&&◌, ◌||◌, ltb, leb, List, length, get_or, take, drop, is_ok, IfOk, Ok, Err, Result, sym, refl, ap, ◌∙◌, arith}
-use Rattle.std.specs.Option.{option_map_or, ok_or}
+use Rattle.std.specs.Option.{option_map_or}
 use Rattle.std.proofs.Math.Bool.{and_assoc}
 use Rattle.std.proofs.lemmas.Bool.{and_parts, and_from}
 use Rattle.std.proofs.lemmas.List.{length-take-le, length-drop}
 use Rattle.format.specs.declared.slot.Slot.{Slot}
 use Rattle.format.specs.declared.slot.Misfit.{Misfit}
-use Rattle.format.specs.declared.slot.Misfit.TheVariants.{UnknownKind, NotAChange}
+use Rattle.format.specs.declared.slot.Misfit.TheVariants.{UnknownKind}
 use Rattle.format.specs.declared.slot.kind.SlotKind.{SlotKind}
 use Rattle.format.specs.declared.slot.fields.Fields.{Fields}
 use Rattle.format.specs.Bytes.{Bytes}
 use Rattle.format.specs.Changes.{Meaning, Lawful}
-use Rattle.format.specs.Slots.{kind_numbered, uses_of, fields_of, padding_zero, laid_out, Sized, unused_zero, page_fits, job_ends, job_fits, lrc_fits, least_link, link_fits, in_range, change_fits, fits, slot_of, slot_fields, only_used, slot_bytes, slot_fits, ◌>>=◌, checked, read_slot}
-use Rattle.format.proofs.ByKind.{numbered_kind, number_kind, told, only_clean, fields_of_slot, has_slot}
-use Rattle.format.proofs.Laid.{fields_laid_out, padding_laid_out, laid_out_fields}
+use Rattle.format.specs.Slots.{kind_numbered, uses_of, fields_of, padding_zero, laid_out, Sized, unused_zero, page_fits, job_ends, job_fits, lrc_fits, least_link, link_fits, in_range, change_fits, fits, slot_of, slot_fields, only_used, slot_bytes, slot_fits, checked, read_slot}
+use Rattle.format.proofs.ByKind.{told, only_clean, fields_of_slot, has_slot}
+use Rattle.format.proofs.Laid.{fields_laid_out, laid_out_fields}
 use Rattle.format.proofs.Reading.{all_asked, is_done, Found, found, found_when}
 
 -- the questions about the fields are those of what is used and of what is in range
@@ -41,17 +41,16 @@ module _ {C : Type 0} (m : Meaning C) where
 
   -- writing by the table loses nothing
   pub all_used : Lawful m → (s : Slot C) → only_used (slot_fields m s) ≡ slot_fields m s
-  all_used law s = let t = told m law s in only_clean (slot_fields m s) t.long t.clean
+  all_used law s = let t = told m law s in only_clean (slot_fields m s) t.long t.row.clean
 
   pub written_reads : Lawful m → (size n : ℕ) (s : Slot C) → Sized (slot_fields m s) → slot_fits m size n s ≡ true
       → read_slot m size n (slot_bytes m s) ≡ Ok s
   written_reads law size n s sized fit =
       let f = slot_fields m s in
       let t = told m law s in
-      let done = is_done (checked size n f) (checked_when size n f ∙ and_from _ _ t.clean fit) in
+      let done = is_done (checked size n f) (checked_when size n f ∙ and_from _ _ t.row.clean fit) in
       ap (λ (g : Fields). read_slot m size n (laid_out g)) (all_used law s)
-      ∙ rw (number_kind f.kind, padding_laid_out f sized)
-      (ap (λ (g : Fields). checked size n g >>= λ _. ok_or (slot_of m g) NotAChange) (fields_laid_out f sized) ∙ rw (done, t.gives))
+      ∙ rw (fields_laid_out f sized, done, t.gives)
 
   -- What reads is what is written
 
@@ -72,7 +71,7 @@ module _ {C : Type 0} (m : Meaning C) where
         let f = fields_of q.kind b in
         let long : length (take 40 (drop 16 b)) ≡ 40 = length-take-le 40 (drop 16 b) (rw (length-drop 16 b) (omega arith)) in
         ap laid_out (all_used law s ∙ (fields_of_slot m law f s q.slot_is ∙ only_clean f long (read_parts s q).0))
-        ∙ laid_out_fields q.kind b h q.padding (numbered_kind (get_or b 0 0) q.kind q.kind_is)
+        ∙ laid_out_fields b h f (rw (q.kind_is, q.padding))
 
     pub answer_written : Lawful m → Bytes 60 b → (r : Result (Slot C) Misfit) → r ≡ read_slot m size n b → IfOk r (λ s. slot_bytes m s ≡ b)
     answer_written law h (Ok s) e = read_written law s h (sym e)

@@ -91,4 +91,4 @@ pub unused_byte : {C : Type 0} (m : Meaning C) → Lawful m → (s : Slot C) (i 
 unused_byte m law s i free =
     let f = slot_fields m s in
     let t = told m law s in
-    clean_at (laid_clean f t.long) i (not_written f.kind i (ap (λ (k : SlotKind). kind_uses_byte k i) t.kind ∙ free))
+    clean_at (laid_clean f t.long) i (not_written f.kind i (ap (λ (k : SlotKind). kind_uses_byte k i) t.row.kind ∙ free))
