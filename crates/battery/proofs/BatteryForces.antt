@@ -21,7 +21,7 @@ log_is ec es ef ep = cc
 pub slot_appended : (before after : Held (List ℕ) most_slots) (x : List ℕ) → as_bytes 60 x ≡ x → before.powered ≡ true
     → before.forced ≤ before.used → before.used < room before → after ≡ appended x before → SlotAppended (log_model before) x (Ok tt) (log_model after)
 slot_appended before after x is on in_used fits did =
-    let e = length_rows 60 before (omega arith) in
+    let e = length_rows 60 before in
     let same : min (length (set before.cells before.used x)) most_slots ≡ room before = simp length-set refl in
     SlotAppended.done on (omega arith) before.forced (omega arith) (omega arith) refl (ap log_model did ∙ log_is same (rows_appended 60 before x is fits) refl on)
 
@@ -45,7 +45,8 @@ module _ (before after : Held (List ℕ) most_slots) (on : before.powered ≡ tr
       → LogForced (log_model before) r (log_model after)
   unfolding stand
   forced_or_lost n is r says =
-      let e = length_rows 60 before in_room in
+      let l = length_rows 60 before in
+      let e : length (rows 60 before) ≡ before.used = omega arith in
       let few = stand_few before.cut (before.used - before.forced) in
       let went : (b : Bool) → cuts_now before.cut ≡ b → r ≡ cond (cond b false true) (Ok tt) (Err (PowerLost n)) =
       λ b cut. says ∙ ap (λ p. cond p (Ok tt) (Err (PowerLost n))) (powered_after b cut) in

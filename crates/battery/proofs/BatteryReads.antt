@@ -1,7 +1,8 @@
 -- What is read of battery memory: the row of the model at that place, and none outside.
-use Rattle.std.proofs.Common.{◌≡◌, ℕ, zero, suc, ◌≤◌, true, List, [], ◌∷◌, Option, Some, None, length, take, Ok, sym, refl, ap, ◌∙◌, arith}
+use Rattle.std.proofs.Common.{◌≡◌, ℕ, zero, suc, ◌≤◌, true, List, [], ◌∷◌, Option, Some, None, length, take, Ok, sym, refl, ap, ◌∙◌, arith, Bor}
 use Rattle.std.specs.List.{slice_get}
-use Rattle.std.specs.Option.{ok_or, option_map}
+use Rattle.std.specs.Option.{ok_or, option_map, option_copied}
+use Rattle.std.specs.Result.{result_map_both}
 use Rattle.std.proofs.lemmas.Option.{slice_get_within, get_or_from_slice_get, slice_get-map}
 use Rattle.device.specs.Memory.{as_bytes}
 use Rattle.device.specs.PageStores.{PageModel, PageRead}
@@ -15,6 +16,11 @@ none_past : {X : Type 0} (xs : List X) (i : ℕ) → None ≡ slice_get xs i →
 none_past [] i e = omega arith
 none_past (x ∷ xs) zero e = absurd cc
 none_past (x ∷ xs) (suc i) e = let past = none_past xs i e in omega arith
+
+-- an element that is lent, copied in the answer
+pub copied_answer : {X E : Type 0} (o : Option (Bor X)) (f : E) → result_map_both (λ b. b.now) (λ e. e) (ok_or o f) ≡ ok_or (option_copied o) f
+copied_answer None f = refl
+copied_answer (Some b) f = refl
 
 same_row : (n : ℕ) (o : Option (List ℕ)) → ((x : List ℕ) → o ≡ Some x → as_bytes n x ≡ x) → o ≡ option_map (as_bytes n) o
 same_row n None whole = refl

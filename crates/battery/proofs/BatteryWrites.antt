@@ -23,7 +23,7 @@ left_new h at x lost is inside =
 module _ (before after : Held (List ℕ) most_pages) (at : ℕ) (x : List ℕ) (is : as_bytes 256 x ≡ x) (on : before.powered ≡ true)
     (in_room : before.used ≤ room before) (inside : at < before.used) (wrote : after ≡ written at x before) where
   inside_model : at < length (pages_model before).pages
-  inside_model = let e = length_rows 256 before in_room in omega arith
+  inside_model = let e = length_rows 256 before in omega arith
 
   by_cut : (b : Bool) → cuts_now before.cut ≡ b → pages_model after ≡ left before at x (eqb (standing before.cut 1) 0) b
   by_cut b e = ap pages_model wrote ∙ ap (left before at x (eqb (standing before.cut 1) 0)) e

@@ -2,6 +2,7 @@
 #![tactic(auto)]
 
 ghost use Rattle.std.specs.Prelude.{◌≡◌, ◌<◌, ◌≤◌, ◌==◌, min, length, take, slice_get};
+ghost use Rattle.std.specs.Option.{option_copied};
 
 mod owners;
 mod pages;
@@ -76,10 +77,11 @@ impl<E: Copy, const MOST: usize> Battery<'_, E, MOST> {
         self.cells.len().min(MOST)
     }
 
-    fn get(&self, place: usize) -> Option<E>
-        ensures { result ≡ slice_get (take self.now.used self.now.cells.now) place }
+    // Lent and not copied: who reads it copies it once, and not again with each answer that it is put into.
+    fn get(&self, place: usize) -> Option<&E>
+        ensures { option_copied result ≡ slice_get (take self.now.used self.now.cells.now) place }
     {
-        self.cells[..self.used].get(place).copied()
+        self.cells[..self.used].get(place)
     }
 
     fn write_one(&mut self, place: usize, element: &E)

@@ -38,7 +38,7 @@ impl PageStore for BatteryPages<'_> {
 
     fn read(&self, page: u32) -> Result<[u8; 256], PageFault> {
         check_power(self.powered, PageFault::PowerLost(page))?;
-        self.get(page as usize).ok_or(PageFault::Outside)
+        self.get(page as usize).ok_or(PageFault::Outside).copied()
     }
 
     fn write(&mut self, page: u32, bytes: &[u8; 256]) -> Result<(), PageFault>

@@ -42,7 +42,7 @@ impl LogStore for BatteryLog<'_> {
     fn read(&self, slot: u32) -> Result<[u8; 60], LogFault> {
         check_power(self.powered, LogFault::PowerLost(slot))?;
         let place = slot.checked_sub(1).ok_or(LogFault::Outside)?;
-        self.get(place as usize).ok_or(LogFault::Outside)
+        self.get(place as usize).ok_or(LogFault::Outside).copied()
     }
 
     fn append(&mut self, bytes: &[u8; 60]) -> Result<(), LogFault>
