@@ -17,5 +17,5 @@ pub struct ScriptedLog {
     powered: bool,
     script: Script,
     // What the interface says of every value of the type; of every model, which an `impl Model` would be asked for, it does not hold.
-    ghost sound: { SoundLog (record { capacity = vec_capacity slots; slots = slots.items; forced = forced; powered = powered }) },
+    pub ghost sound: { SoundLog (record { capacity = vec_capacity slots; slots = slots.items; forced = forced; powered = powered }) },
 }

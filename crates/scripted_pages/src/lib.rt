@@ -14,5 +14,5 @@ pub struct ScriptedPages {
     powered: bool,
     script: Script,
     // What the interface says of every value of the type; of every model, which an `impl Model` would be asked for, it does not hold.
-    ghost sound: { SoundPages (record { pages = pages.items; powered = powered }) },
+    pub ghost sound: { SoundPages (record { pages = pages.items; powered = powered }) },
 }
