@@ -66,6 +66,26 @@ fn a_log_over_a_span(rt: HostRuntime) {
     assert_eq!(rt; log.len(), Ok(5));
 }
 
+// Holds a log over a span of any two stores and asks nothing of them: the log's type asks nothing of its parameter either.
+#[derive(Drop)]
+struct Kept<A, B> {
+    log: PagedLog<Span<A, B>>,
+}
+
+#[test]
+fn a_log_held_by_a_struct_over_any_stores(rt: HostRuntime) {
+    let mut low = [[0; 256]; 1];
+    let mut high = [[0; 256]; 1];
+    let mut kept = Kept {
+        log: PagedLog::new(Span::new(
+            battery_pages(&mut low, None),
+            battery_pages(&mut high, None),
+        )),
+    };
+    assert_eq!(rt; kept.log.append(&[7; 60]), Ok(()));
+    assert_eq!(rt; kept.log.len(), Ok(1));
+}
+
 #[test]
 fn an_append_writes_two_pages_at_most(rt: HostRuntime) {
     let mut memory = [old_page(4), old_page(3), old_page(0), old_page(0)];

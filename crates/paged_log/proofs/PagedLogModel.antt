@@ -1,13 +1,11 @@
 -- The model of a log on pages: what its making gives, and what each call makes of it.
-use Rattle.std.proofs.Common.{◌≡◌, ℕ, suc, ◌/◌, ◌%◌, ◌<◌, ◌≤◌, Bool, true, false, cond, ltb, List, [], ◌∷◌, ◌++◌, length, get_or, take, replicate, Ok, Err, Result, sym, refl, ap, ◌∙◌, subst, ⊎_elim, arith}
+use Rattle.std.proofs.Common.{◌≡◌, ℕ, suc, ◌/◌, ◌%◌, ◌<◌, min, Bool, true, false, ltb, List, [], ◌∷◌, ◌++◌, length, get_or, take, Ok, Result, sym, refl, ap, ◌∙◌, subst, ⊎_elim, arith}
 use Rattle.std.specs.Str.{bytes_eq}
-use Rattle.std.proofs.lemmas.List.{take_all, take_at, length_push, length-replicate}
-use Rattle.format.specs.Bytes.{Bytes}
-use Rattle.format.proofs.Rows.{small_zeros}
+use Rattle.std.proofs.lemmas.List.{take_all, take_at, length_push}
 use Rattle.std.proofs.lemmas.Slice.Eq.{bytes_eq-Decides}
 use Rattle.std.proofs.lemmas.Bool.{cases_Bool, and_parts}
 use Rattle.device.specs.declared.page_store.PageFault.{PageFault}
-use Rattle.device.specs.declared.log_store.LogFault.TheVariants.{PowerLost}
+use Rattle.device.specs.Memory.{as_bytes}
 use Rattle.device.specs.PageStores as store
 use Rattle.device.specs.PageStores.{PageModel, PageRead}
 use Rattle.device.specs.LogStores.{LogModel, SlotRead, LogForced, state}
@@ -23,48 +21,41 @@ read_page m at r page (PageRead.done p l e) o = cc
 pub at_this : (m : PageModel) (b : Bool) → m.powered ≡ b → m ≡ at_power b m.pages
 at_this m b e = ap (λ (t : Bool). record { pages = m.pages; powered = t }) e
 
-pub zeros_fit : (n : ℕ) → Bytes n (replicate n 0)
-zeros_fit n = record { size = length-replicate n 0; small = small_zeros n }
-
 -- the making
 module _ (m m' : PageModel) (on : m' ≡ store.powered_on m) (len : ℕ) (ends : len ≡ log_length m'.pages) (last : List ℕ) where
   pub made_log : paged m' len last ≡ found m
-  made_log = ap (λ (n : ℕ). paged m' n last) ends ∙ ap (λ (x : PageModel). paged x (log_length x.pages) last) on
-
-  pub made_in_room : len ≤ room m'
-  made_in_room = let most = length_most m'.pages in omega arith
+  made_log =
+      let most = length_most m.pages in
+      let least : min (log_length m.pages) (room m) ≡ log_length m.pages = omega arith in
+      ap (λ (n : ℕ). paged m' n last) ends ∙ ap (λ (x : PageModel). paged x (log_length x.pages) last) on
+      ∙ ap (λ (n : ℕ). record { capacity = room m; slots = first_slots m.pages n; forced = n; powered = true }) least
 
   pub made_agrees : Says m' (paged m' len last)
   made_agrees = subst (λ (l : LogModel). Says m' l) (sym made_log) (ap (λ (x : PageModel). log_of x.pages) on
       ∙ sym (take_first m.pages (log_length m.pages) (log_length m.pages) (omega arith)))
 
 -- the length, whatever the power
-pub slots_size : (m : PageModel) (len : ℕ) (last : List ℕ) → length (paged m len last).slots ≡ len
-slots_size m len last = held_size m.powered m.pages len last
+pub slots_size : (m : PageModel) (len : ℕ) (last : List ℕ) → length (paged m len last).slots ≡ min len (room m)
+slots_size m len last = held_size m.powered m.pages (min len (room m)) (as_bytes 60 last)
 
 -- with power: every slot stands and is forced
 module _ (m : PageModel) (len : ℕ) (last : List ℕ) (on : m.powered ≡ true) where
-  pub with_power : paged m len last ≡ record { capacity = room m; slots = first_slots m.pages len; forced = len; powered = true }
+  pub with_power : paged m len last
+      ≡ record { capacity = room m; slots = first_slots m.pages (min len (room m)); forced = min len (room m); powered = true }
   with_power = ap (λ (x : PageModel). paged x len last) (at_this m true on)
 
-  pub read_slot : (n : ℕ) (page found : List ℕ) → n < len → page ≡ get_or m.pages (n / 4) [] → found ≡ slot_in page (n % 4)
+  pub read_slot : (n : ℕ) (page found : List ℕ) → n < min len (room m) → page ≡ get_or m.pages (n / 4) [] → found ≡ slot_in page (n % 4)
       → SlotRead (paged m len last) (suc n) (Ok found)
   read_slot n page found inside p f =
       let size = slots_size m len last in
       SlotRead.done on (omega arith) (omega arith) (ap Ok (f ∙ ap (λ (x : List ℕ). slot_in x (n % 4)) p
-      ∙ sym (ap (λ (l : LogModel). get_or l.slots n []) with_power ∙ get_or_first m.pages len n inside)))
+      ∙ sym (ap (λ (l : LogModel). get_or l.slots n []) with_power ∙ get_or_first m.pages (min len (room m)) n inside)))
 
   pub forced_all : LogForced (paged m len last) (Ok tt) (paged m len last)
   forced_all = LogForced.done on refl
       (with_power ∙ sym (ap (λ (l : LogModel). state l l.slots (length l.slots) true) with_power
-      ∙ ap (λ (n : ℕ). record { capacity = room m; slots = first_slots m.pages len; forced = n; powered = true }) (length_first m.pages len)))
-
-pub log_forced : (m : PageModel) (len : ℕ) (last : List ℕ) → LogForced (paged m len last) (cond m.powered (Ok tt) (Err (PowerLost len))) (paged m len last)
-log_forced m len last = ⊎_elim
-    (λ on. subst (λ (p : Bool). LogForced (paged m len last) (cond p (Ok tt) (Err (PowerLost len))) (paged m len last)) (sym on) (forced_all m len last on))
-    (λ off. subst (λ (p : Bool). LogForced (paged m len last) (cond p (Ok tt) (Err (PowerLost len))) (paged m len last)) (sym off)
-    (LogForced.no_power off (ap (λ (n : ℕ). Err (PowerLost n)) (sym (slots_size m len last))) refl))
-    (cases_Bool m.powered)
+      ∙ ap (λ (n : ℕ). record { capacity = room m; slots = first_slots m.pages (min len (room m)); forced = n; powered = true })
+      (length_first m.pages (min len (room m)))))
 
 -- without power the last slot may not be there
 stood : (pages : List (List ℕ)) (n : ℕ) (last : List ℕ) → stands pages n last ≡ true → slot_at pages n ≡ last

@@ -4,8 +4,10 @@ use Rattle.std.specs.Str.{bytes_eq}
 use Rattle.format.specs.Bytes.{number_at, spelled}
 use Rattle.device.specs.declared.page_store.PageFault.{PageFault}
 use Rattle.device.specs.declared.page_store.PageFault.TheVariants.{PowerLost}
+use Rattle.paged_log.specs.declared.PagedLog.{PagedLog}
 use Rattle.device.specs.PageStores.{PageModel}
 use Rattle.device.specs.LogStores.{LogModel}
+use Rattle.device.specs.Memory.{as_bytes}
 
 -- how many of the page's slots are part of the log
 abbrev pub count_of : List ℕ → ℕ
@@ -51,12 +53,12 @@ sure false pages (suc n) last = cond (stands pages n last) (suc n) n
 abbrev pub room : PageModel → ℕ
 room m = 4 * length m.pages
 
--- a log over pages with this model
+-- a log over pages with this model, its numbers brought into range
 abbrev pub paged : PageModel → ℕ → List ℕ → LogModel
 paged m len last = record {
   capacity = room m;
-  slots = held m.powered m.pages len last;
-  forced = sure m.powered m.pages len last;
+  slots = held m.powered m.pages (min len (room m)) (as_bytes 60 last);
+  forced = sure m.powered m.pages (min len (room m)) (as_bytes 60 last);
   powered = m.powered;
 }
 
@@ -64,9 +66,16 @@ paged m len last = record {
 abbrev pub found : PageModel → LogModel
 found m = record { capacity = room m; slots = log_of m.pages; forced = log_length m.pages; powered = true }
 
--- the pages say the forced slots and no other
+-- of a log over any page store, with that store's model
+abbrev pub model_of : {P : Type 0} → (P → PageModel) → PagedLog P → LogModel
+model_of pages s = paged (pages s.pages) s.len s.last
+
+-- The pages say the forced slots and no other: a log that is made over them again has what power-on would leave.
 abbrev pub Says : PageModel → LogModel → Type 0
 Says m l = log_of m.pages ≡ take l.forced l.slots
+
+abbrev pub Agrees : {P : Type 0} → (P → PageModel) → PagedLog P → Type 0
+Agrees pages s = Says (pages s.pages) (model_of pages s)
 
 abbrev pub blank : List ℕ
 blank = replicate 256 0
@@ -88,7 +97,7 @@ at_power powered pages = record { pages = pages; powered = powered }
 
 -- the pages once a log of this length has one slot more
 abbrev pub appended : PageModel → ℕ → List ℕ → PageModel
-appended m len slot = at_power true (put_slot (room_made m.pages len) len slot)
+appended m len slot = at_power true (put_slot (room_made m.pages (min len (room m))) (min len (room m)) slot)
 
 -- a change of the pages is made, or power is lost in it and it is made or not
 pub data Made (before : List (List ℕ)) (new : List (List ℕ)) (r : Result (Unit {0}) PageFault) (after : PageModel) : Type 0 where

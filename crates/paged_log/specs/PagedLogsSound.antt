@@ -1,9 +1,10 @@
--- A log on pages is a sound log, whatever the pages say.
-use Rattle.std.specs.Prelude.{◌≡◌, ℕ, zero, suc, ◌+◌, ◌*◌, ◌/◌, ◌%◌, ◌<◌, ◌≤◌, Bool, true, false, List, [], ◌∷◌, length, drop, slice_index_or, refl}
+-- A log on pages is a sound log, whatever the pages say and the struct remembers.
+use Rattle.std.specs.Prelude.{◌≡◌, ℕ, zero, suc, ◌+◌, ◌*◌, ◌/◌, ◌%◌, ◌<◌, ◌≤◌, min, Bool, true, false, List, [], ◌∷◌, length, drop, slice_index_or, refl}
 use Rattle.std.proofs.Common.{sym, ◌∙◌, ap, subst, ⊎_elim, arith, add-one}
 use Rattle.std.proofs.lemmas.List.{length_push, get_or_append_left, get_or_push, length-take, length-drop, get_or-take, get_or-drop, get_or_past}
 use Rattle.std.proofs.lemmas.Bool.{cases_lt, cond_both}
 use Rattle.format.specs.Bytes.{Bytes}
+use Rattle.device.specs.Memory.{as_bytes, as_bytes_size, as_bytes_small}
 use Rattle.device.specs.PageStores.{PageModel, SoundPages}
 use Rattle.device.specs.LogStores.{SoundLog}
 use Rattle.paged_log.specs.PagedLogs.{slot_in, slot_at, first_slots, stands, held, sure, room, paged}
@@ -67,13 +68,13 @@ held_fits m s false (suc n) last h w i l =
     (λ a. subst (λ (x : List ℕ). Bytes 60 x) (sym (get_or_push (first_slots m.pages n) last [] i (omega arith))) w)
     (cases_lt i n)
 
-pub paged_sound : (m : PageModel) → SoundPages m → (len : ℕ) (last : List ℕ) → len ≤ room m → Bytes 60 last → SoundLog (paged m len last)
-paged_sound m s len last in_room whole =
-    let n = held_size m.powered m.pages len last in
+pub paged_sound : (m : PageModel) → SoundPages m → (len : ℕ) (last : List ℕ) → SoundLog (paged m len last)
+paged_sound m s len last =
+    let n = held_size m.powered m.pages (min len (room m)) (as_bytes 60 last) in
     let f = s.few in
     record {
-      held = let most = sure_most m.powered m.pages len last in omega arith;
+      held = let most = sure_most m.powered m.pages (min len (room m)) (as_bytes 60 last) in omega arith;
       room = omega arith;
       numbers = omega arith;
-      each = held_fits m s m.powered len last in_room whole;
+      each = held_fits m s m.powered (min len (room m)) (as_bytes 60 last) (omega arith) (record { size = as_bytes_size 60 last; small = as_bytes_small 60 last });
     }

@@ -9,10 +9,9 @@
 // one that is where its page has it, and `power_on` looks.
 #![tactic(auto)]
 
-ghost use Rattle.std.specs.Prelude.{◌≡◌, ◌≤◌, if◌then◌else◌, Ok, Err};
-ghost use Rattle.format.specs.Bytes.{Bytes};
+ghost use Rattle.std.specs.Prelude.{◌≡◌, min, if◌then◌else◌, Ok, Err};
 ghost use Rattle.device.specs.PageStores.{powered_on};
-ghost use Rattle.paged_log.specs.PagedLogs.{paged, found, room, Says};
+ghost use Rattle.paged_log.specs.PagedLogs.{model_of, found, room, Agrees};
 
 use device::{LogFault, PageStore};
 
@@ -21,17 +20,13 @@ mod put;
 mod store;
 
 #[derive(Drop)]
-pub struct PagedLog<P: PageStore> {
+pub struct PagedLog<P> {
     pages: P,
     // How many slots there are, with the slot of an append in which power was lost.
     len: u32,
     // The slot of the last append. Only `power_on` reads it, after a loss of power, and power is lost only in an append: what stands here
     // before the first append is never read.
     last: [u8; 60],
-    pub ghost in_room: { len ≤ room (P.PageStore.model pages) },
-    pub ghost whole: { Bytes 60 last },
-    // The pages say the forced slots and no other: a log that is made over them again has what power-on would leave.
-    pub ghost agrees: { Says (P.PageStore.model pages) (paged (P.PageStore.model pages) len last) },
 }
 
 impl<P: PageStore> PagedLog<P> {
@@ -39,7 +34,8 @@ impl<P: PageStore> PagedLog<P> {
     // nothing is written.
     pub fn new(mut pages: P) -> PagedLog<P>
         ensures pages { P.PageStore.model result.pages ≡ powered_on (P.PageStore.model pages) }
-        ensures log { paged (P.PageStore.model result.pages) result.len result.last ≡ found (P.PageStore.model pages) }
+        ensures log { model_of P.PageStore.model result ≡ found (P.PageStore.model pages) }
+        ensures agrees { Agrees P.PageStore.model result }
     {
         pages.power_on();
         let len = put::end(&pages);
@@ -55,6 +51,14 @@ impl<P: PageStore> PagedLog<P> {
         ensures { result ≡ self.pages }
     {
         self.pages
+    }
+
+    // The store's size never changes; the length is never above four times that. No ghost field of the type says so: it would ask
+    // `P: PageStore` wherever the type is named, and any ghost field at all refuses a type that holds itself through a log.
+    fn length(&self) -> u32
+        ensures { result ≡ min self.now.len (room (P.PageStore.model self.now.pages)) }
+    {
+        self.len.min(4 * self.pages.size())
     }
 
     // A loss of power is reported at this slot.

@@ -1,6 +1,7 @@
 // What a log does with its pages while there is power: find the end, see whether a slot stands, put a slot.
-// They take the pages and not the log, whose invariants do not hold amid an append; so each says what it needs.
+// They take the pages and not the log: `end` runs before there is one, `put` while it is being changed. So each says what it needs.
 ghost use Rattle.std.specs.Prelude.{◌≡◌, ◌<◌, true};
+ghost use Rattle.device.specs.Memory.{as_bytes};
 ghost use Rattle.paged_log.specs.PagedLogs.{log_length, room, stands, room_made, Made, SlotPut};
 
 use crate::page::{self, LogPage};
@@ -25,7 +26,8 @@ pub(crate) fn end<P: PageStore>(pages: &P) -> u32
 // Whether slot n, counted from 0, is part of its page and has these bytes.
 pub(crate) fn stands<P: PageStore>(pages: &P, n: u32, slot: &[u8; 60]) -> bool
     requires { ((P.PageStore.model pages.now).powered ≡ true) × (n < room (P.PageStore.model pages.now)) }
-    ensures { result ≡ stands (P.PageStore.model pages.now).pages n slot.now }
+    ensures value { result ≡ stands (P.PageStore.model pages.now).pages n slot.now }
+    ensures whole { as_bytes 60 slot.now ≡ slot.now }
 {
     let (at, place) = page::page_and_place(n);
     let bytes = pages.read(at).unwrap();

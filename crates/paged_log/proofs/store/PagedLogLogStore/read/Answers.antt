@@ -4,8 +4,8 @@ use Rattle.paged_log.specs.PagedLogs.{slot_in}
 use Rattle.paged_log.proofs.PagedLogModel.{slots_size, read_slot, read_page}
 use Rattle.paged_log.proofs.store.PagedLogLogStore.read.Goals as goal
 
-pub returns-then-n-self : goal.returns-then-n-self
-returns-then-n-self g c =
+pub returns-then-n-length : goal.returns-then-n-length
+returns-then-n-length g c =
     let self = c.args.self.now in
     let size = slots_size (g.P.PageStore.model self.pages) self.len self.last in
     let on : (g.P.PageStore.model self.pages).powered ≡ true = search rules in
