@@ -6,8 +6,8 @@ use device::LogStore;
 use format::{Change, Slot};
 use paged_log::PagedLog;
 use recovery_log::Summary;
-use std::alloc::{AllocError, Global};
-use std::io::{BufWriter, ErrorKind, Read, Write};
+use std::alloc::Global;
+use std::io::{BufWriter, Read, Write};
 use std::{fmt, io};
 
 mod report;
@@ -39,7 +39,7 @@ pub(crate) fn dump<C: Printable, R: Read + Drop>(
     };
     // Two ways to read, each with its own use of memory: a match is plainer than a closure for each.
     match layout {
-        Layout::Slots => printer.slots::<C, R>(heap, reader)?,
+        Layout::Slots => printer.slots::<C, R>(reader)?,
         Layout::Pages => printer.log_pages::<C, R>(heap, reader)?,
     }
     printer.print_summary()?;
@@ -49,23 +49,17 @@ pub(crate) fn dump<C: Printable, R: Read + Drop>(
 
 impl<W: Write> Printer<W> {
     // An image of slots is printed while it is read.
-    fn slots<C: Printable, R: Read + Drop>(
-        &mut self,
-        heap: Global,
-        mut reader: R,
-    ) -> Result<(), Failure> {
-        // Room for one byte more than a row has, so that no reading wants more.
-        let mut row = Vec::with_capacity(heap, 61)?;
+    fn slots<C: Printable, R: Read + Drop>(&mut self, mut reader: R) -> Result<(), Failure> {
+        let mut slot = [0; 60];
         // Every loop has to end, and no image has so many slots.
         for _ in 0..u64::MAX {
-            row.clear();
-            reader.by_ref().take(60).read_to_end(&mut row)?;
-            let Ok(slot) = <&[u8; 60]>::try_from(row.as_slice()) else {
+            let got = fill(&mut reader, &mut slot)?;
+            if got < slot.len() {
+                self.print_rest(got, "slot")?;
                 break;
-            };
-            self.note::<C>(slot)?;
+            }
+            self.note::<C>(&slot)?;
         }
-        self.print_rest(row.len(), "slot")?;
         Ok(())
     }
 
@@ -75,17 +69,17 @@ impl<W: Write> Printer<W> {
         heap: Global,
         mut reader: R,
     ) -> Result<(), Failure> {
-        let mut bytes = Vec::new(heap);
-        // An image that is too large for memory is no fault of the input.
-        reader
-            .read_to_end(&mut bytes)
-            .map_err(|error| match error.kind() {
-                ErrorKind::OutOfMemory => Failure::OutOfMemory(AllocError),
-                _ => Failure::Io(error),
-            })?;
-        let (image, rest) = bytes.as_mut_slice().as_chunks_mut::<256>();
-        self.print_rest(rest.len(), "page")?;
-        let log = PagedLog::new(battery_pages(image, None));
+        let mut image = Vec::new(heap);
+        let mut page = [0; 256];
+        for _ in 0..u64::MAX {
+            let got = fill(&mut reader, &mut page)?;
+            if got < page.len() {
+                self.print_rest(got, "page")?;
+                break;
+            }
+            image.push(page)?;
+        }
+        let log = PagedLog::new(battery_pages(image.as_mut_slice(), None));
         for number in 1..=log.len()? {
             let slot = log.read(number)?;
             self.note::<C>(&slot)?;
@@ -116,4 +110,21 @@ impl<W: Write> Printer<W> {
         self.summary.note(fitting.as_ref())?;
         Ok(())
     }
+}
+
+// Reads until the row is full or the input ends, and answers how many bytes came. Not by the library's `read_to_end`: that goes on where a
+// read is interrupted, wants room for more than comes, and tells the system's want of memory as the program's own.
+fn fill<R: Read>(reader: &mut R, row: &mut [u8]) -> io::Result<usize> {
+    let mut got = 0;
+    for _ in 0..row.len() {
+        if got >= row.len() {
+            break;
+        }
+        let more = reader.read(&mut row[got..])?;
+        if more == 0 {
+            break;
+        }
+        got += more;
+    }
+    Ok(got)
 }

@@ -1,9 +1,8 @@
 -- What a summary tells of a log. Assumes nothing.
-use Rattle.std.specs.Prelude.{◌≡◌, ℕ, ◌+◌, ◌-◌, ◌^◌, ◌<◌, min, Bool, false, ◌||◌, [], ◌∷◌, length, is_some, Some, None, Ok, Err, Option, Result, ◌==◌, nat_lt, ⊤}
+use Rattle.std.specs.Prelude.{◌≡◌, ℕ, ◌+◌, ◌-◌, ◌^◌, ◌<◌, min, Bool, false, ◌||◌, List, [], ◌∷◌, map, length, is_some, Some, None, Ok, Err, Option, Result, ◌==◌, ⊤}
 use Rattle.std.specs.BTreeMap.{BTreeMap}
 use Rattle.std.specs.BTreeMap.{IsOrdered, get}
 use Rattle.std.specs.BTreeSet as sets
-use Rattle.std.specs.Bool.{then_some}
 use Rattle.std.specs.Option.{unwrap_or, option_map}
 use Rattle.format.specs.declared.slot.Slot.{Slot}
 use Rattle.format.specs.declared.slot.Slot.TheVariants.{Record, Job, Checkpoint}
@@ -11,7 +10,7 @@ use Rattle.format.specs.declared.slot.Action.{Action}
 use Rattle.format.specs.declared.slot.Action.TheVariants.{Put, TakeBack}
 use Rattle.format.specs.declared.slot.JobEvent.{JobEvent}
 use Rattle.format.specs.declared.slot.kind.SlotKind.{SlotKind}
-use Rattle.format.specs.contracts.slot.kind.SlotKindOrd.TheImpl as by_order
+use Rattle.format.specs.Slots.{every_kind}
 use Rattle.recovery_log.specs.declared.error.NoteError.{NoteError}
 use Rattle.recovery_log.specs.declared.error.NoteError.TheVariants.{OutOfMemory, TooManySlots}
 use Rattle.recovery_log.specs.declared.jobs.JobSummary.{JobSummary}
@@ -20,7 +19,6 @@ use Rattle.recovery_log.specs.declared.summary.Checkpoint as checkpoint
 use Rattle.recovery_log.specs.declared.summary.Summary.{Summary}
 use Rattle.recovery_log.specs.Log.{Log, opens, commits, ends, is_open, is_committed, is_ended, pending, newest_lrc, how_many_misfits, how_many, Making, making, has_page, has_job, last_checkpoint}
 use Rattle.std.specs.Ordering.{nat_cmp}
-use Rattle.std.specs.declared.cmp.Ordering.{Ordering}
 
 -- Jobs
 
@@ -64,19 +62,14 @@ module _ where
 
 -- Pages and counts
 
--- the order of the kinds, by their numbers
-abbrev pub kind_cmp : SlotKind → SlotKind → Ordering
-kind_cmp = by_order.ghosts.cmp
-
 module _ {C : Type 0} where
   pub record TellsPages (m : BTreeMap ℕ ℕ) (L : Log C) : Type 0 where
     pub ordered : IsOrdered nat_cmp m
     pub each : (p : ℕ) → get nat_cmp m p ≡ newest_lrc L p
 
-  -- a kind that has no slot has no entry
-  pub record TellsKinds (kinds : BTreeMap SlotKind ℕ) (L : Log C) : Type 0 where
-    pub ordered : IsOrdered kind_cmp kinds
-    pub each : (k : SlotKind) → get kind_cmp kinds k ≡ then_some (nat_lt 0 (how_many k L)) (how_many k L)
+  -- each kind, in the order of their numbers, with how many slots are of it
+  abbrev pub TellsKinds : List (SlotKind × ℕ) → Log C → Type 0
+  TellsKinds kinds L = kinds ≡ map (λ k. (k, how_many k L)) every_kind
 
   -- where what stood before tells of a log that has room for a slot, what stands after tells of the log with this slot on top
   abbrev pub Carries : {X : Type 0} → (X → Log C → Type 0) → Option (Slot C) → X → X → Type 0

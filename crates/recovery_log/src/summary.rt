@@ -21,8 +21,8 @@ pub struct Summary {
     pub pages: BTreeMap<u8, u32>,
     // How many slots do not fit.
     pub misfits: u32,
-    // How many slots there are of each kind that has any.
-    pub kinds: BTreeMap<SlotKind, u32>,
+    // How many slots there are of each kind, in the order of their numbers: a row and no map, so that a count wants no memory.
+    pub kinds: [(SlotKind, u32); 9],
     // The newest that is complete.
     pub checkpoint: Option<Checkpoint>,
     making: Option<Draft>,
@@ -37,6 +37,18 @@ pub struct Checkpoint {
     pub end: u32,
 }
 
+const NO_SLOTS: [(SlotKind, u32); 9] = [
+    (SlotKind::Open, 0),
+    (SlotKind::Change, 0),
+    (SlotKind::Compensation, 0),
+    (SlotKind::Commit, 0),
+    (SlotKind::End, 0),
+    (SlotKind::CheckpointBegin, 0),
+    (SlotKind::CheckpointPage, 0),
+    (SlotKind::CheckpointJob, 0),
+    (SlotKind::CheckpointEnd, 0),
+];
+
 impl Summary {
     // Of a log that has no slot yet; C is the log's kind of change.
     pub fn new<C>(heap: Global) -> Summary
@@ -47,7 +59,7 @@ impl Summary {
             jobs: BTreeMap::new(heap),
             pages: BTreeMap::new(heap),
             misfits: 0,
-            kinds: BTreeMap::new(heap),
+            kinds: NO_SLOTS,
             checkpoint: None,
             making: None,
             heap,
@@ -62,7 +74,7 @@ impl Summary {
         note_job(&mut self.jobs, slot)?;
         note_page(&mut self.pages, slot)?;
         note_misfit(&mut self.misfits, slot);
-        note_kind(&mut self.kinds, slot)?;
+        note_kind(&mut self.kinds, slot);
         self.checkpoint = newest(self.checkpoint, self.making.as_ref(), slot, number);
         self.making = next_draft(self.making.take(), slot, number, self.heap)?;
         self.slots = number;
@@ -110,17 +122,14 @@ fn note_misfit<C>(misfits: &mut u32, slot: Option<&Slot<C>>)
     }
 }
 
-fn note_kind<C>(
-    kinds: &mut BTreeMap<SlotKind, u32>,
-    slot: Option<&Slot<C>>,
-) -> Result<(), AllocError>
-    ensures { OnOk result (Carries TellsKinds (option_map (λ x. x.now) slot.entry) kinds.old kinds.new) }
+// The count of a kind is at its number less one.
+fn note_kind<C>(kinds: &mut [(SlotKind, u32); 9], slot: Option<&Slot<C>>)
+    ensures { Carries TellsKinds (option_map (λ x. x.now) slot.entry) kinds.old kinds.new }
 {
     if let Some(slot) = slot {
-        let count = kinds.entry(slot.kind())?.or_default();
-        *count = count.saturating_add(1);
+        let place = u8::from(slot.kind()) as usize - 1;
+        kinds[place].1 = kinds[place].1.saturating_add(1);
     }
-    Ok(())
 }
 
 #[cfg(test)]
@@ -164,7 +173,11 @@ mod tests {
         assert_eq!(rt; summary.jobs.get(&7).copied(), Some(job));
         assert_eq!(rt; summary.pages.get(&3).copied(), Some(3));
         assert_eq!(rt; summary.misfits, 0);
-        let kinds = summary.kinds.iter().map(|(kind, count)| (*kind, *count));
+        let kinds = summary
+            .kinds
+            .iter()
+            .copied()
+            .filter(|(_, count)| *count > 0);
         let expected = [
             (SlotKind::Open, 1),
             (SlotKind::Change, 2),

@@ -23,7 +23,9 @@ impl<W: Write> Printer<W> {
             writeln!(self.out, "{misfits:>6}  does not fit")?;
         }
         for (kind, count) in &self.summary.kinds {
-            writeln!(self.out, "{count:>6}  {kind}")?;
+            if *count > 0 {
+                writeln!(self.out, "{count:>6}  {kind}")?;
+            }
         }
         Ok(())
     }

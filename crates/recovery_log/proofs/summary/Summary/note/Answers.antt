@@ -11,7 +11,7 @@ returns g c = λ L old.
       jobs = c.in_ok-note_job.ensures L few old.jobs;
       pages = c.in_ok-note_page.ensures L old.pages;
       misfits = c.note_misfit.ensures L few old.misfits;
-      kinds = c.in_ok-note_kind.ensures L few old.kinds;
+      kinds = c.note_kind.ensures L few old.kinds;
       newest = c.newest-self.ensures L number (rw c.as_ref.ensures.value old.draft) old.newest;
       draft = c.in_ok-self.ensures L number (rw c.take.ensures.value old.draft);
     }
